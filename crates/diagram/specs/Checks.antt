@@ -1,0 +1,172 @@
+-- Document 01, "Turned away": the grounds for refusing a request, in the table's order. A check gives the place at fault, or none where it passes.
+use Prim.Native.Nat.{ℕ, zero, suc, _+_, _-_, _*_, _%_, _^_}
+use mathlib.Core.Bool.{Bool, true, false, cond, not, _&&_, _||_}
+use mathlib.Core.List.{List, [], _∷_, _++_}
+use mathlib.Core.Option.{Option, none, some}
+use lib.ListN.{length, getD, take}
+use lib.Dec.{eqb, ltb, leb}
+use Rattle.diagram.specs.Words.{wordAt, kind, fieldP, fieldQ, fieldR}
+use Rattle.diagram.specs.Table.{Variable, choice, chance, Record, Table, variableCount, recordCount, tableOf, recordAt, isChoice, choiceCount, scaleOf}
+use Rattle.diagram.specs.Score.{implies}
+
+-- Place 0 where a fault is there, and no place where it is not
+unfoldable pub placeZero : Bool → Option ℕ
+placeZero fault = cond fault (some 0) none
+
+-- The first of n places, from i on, that is at fault
+unfoldable pub firstPlace : (ℕ → Bool) → (i n : ℕ) → Option ℕ
+firstPlace fault i zero = none
+firstPlace fault i (suc n) = elim (fault i) as (λ _. Option ℕ) [ true ↦ some i | false ↦ firstPlace fault (suc i) n ]
+
+-- A number of the table, and what it finds in a file: what comes with the file is fixed beforehand
+pub record Check : Type 0 where
+  pub number : ℕ
+  pub fault : List ℕ → Option ℕ
+
+-- ---------------------------------------------------------------------------
+-- 11 to 18: the file
+
+-- 11: "table length under 4, over 1,260 or no multiple of 4"
+unfoldable pub lengthFault : List ℕ → Option ℕ
+lengthFault s = placeZero (ltb (length s) 4 || ltb 1260 (length s) || not (eqb (length s % 4) 0))
+
+-- A heading is of kind 1 with V from 1 to 60, N from 1 to 254 and R 0
+unfoldable pub isHeading : ℕ → Bool
+isHeading w = eqb (kind w) 1 && (leb 1 (fieldP w) && leb (fieldP w) 60) && (leb 1 (fieldQ w) && leb (fieldQ w) 254) && eqb (fieldR w) 0
+
+-- 12: "heading's kind or a field wrong"
+unfoldable pub headingFault : List ℕ → Option ℕ
+headingFault s = placeZero (not (isHeading (wordAt s 0)))
+
+-- 13: "length is not 4 times (1 + V + N)"
+unfoldable pub countFault : List ℕ → Option ℕ
+countFault s = placeZero (not (eqb (length s) (4 * (1 + variableCount s + recordCount s))))
+
+-- A choice word is of kind 2 with its position and zeros, a chance word of kind 3 with its position, b from 1 to 1,000 and a from 0 to b
+unfoldable pub isVariableWord : (position : ℕ) → ℕ → Bool
+isVariableWord i w =
+    eqb (fieldP w) i
+    && (eqb (kind w) 2 && eqb (fieldQ w) 0 && eqb (fieldR w) 0
+        || eqb (kind w) 3 && (leb 1 (fieldR w) && leb (fieldR w) 1000) && leb (fieldQ w) (fieldR w))
+
+-- 14: "a variable word's kind or a field wrong", at the first such word. The variable at position i is word i + 1.
+unfoldable pub variableFault : List ℕ → Option ℕ
+variableFault s = firstPlace (λ i. not (isVariableWord (i - 1) (wordAt s i))) 1 (variableCount s)
+
+-- 15: "more than 20 choices", at "the 21st choice word": the first word up to which there are more than 20
+unfoldable pub choiceFault : List ℕ → Option ℕ
+choiceFault s = firstPlace (λ i. ltb 20 (choiceCount (take i (tableOf s .variables)))) 1 (variableCount s)
+
+-- 16: "product of b above 2^56", at the "word where it first is"
+unfoldable pub scaleFault : List ℕ → Option ℕ
+scaleFault s = firstPlace (λ i. ltb (2 ^ 56) (scaleOf (take i (tableOf s .variables)))) 1 (variableCount s)
+
+-- The position of a node. The ends stand after all v variables, so that "a larger variable position" is asked of records only.
+unfoldable pub positionOf : ℕ → List Record → ℕ → ℕ
+positionOf v rs zero = v
+positionOf v rs (suc zero) = v
+positionOf v rs (suc (suc k)) = recordAt rs k .position
+
+-- "Both children have smaller node numbers, and a child that is a record has a larger variable position": node n as a child of record k at position p
+unfoldable pub isChild : ℕ → List Record → (k p n : ℕ) → Bool
+isChild v rs k p n = ltb n (k + 2) && ltb p (positionOf v rs n)
+
+-- A record word is of kind 4, with the position of one of the v variables and two children
+unfoldable pub isRecordWord : ℕ → List Record → (k : ℕ) → ℕ → Bool
+isRecordWord v rs k w =
+    eqb (kind w) 4 && ltb (fieldP w) v && (isChild v rs k (fieldP w) (fieldQ w) && isChild v rs k (fieldP w) (fieldR w))
+
+-- 17: "a record's kind, position or child wrong", at the first such word. Record k is word 1 + V + k.
+unfoldable pub recordFault : List ℕ → Option ℕ
+recordFault s =
+    firstPlace
+    (λ i. not (isRecordWord (variableCount s) (tableOf s .records) (i - (1 + variableCount s)) (wordAt s i)))
+    (1 + variableCount s)
+    (recordCount s)
+
+-- "at every choice record, reachable or not, each settling of all variables that leads from lo to true also leads from hi to true": at record k
+unfoldable pub isMonotoneAt : Table → ℕ → Bool
+isMonotoneAt t k =
+    not (isChoice (getD (t .variables) (recordAt (t .records) k .position) (chance 0 1)))
+    || implies (length (t .variables)) (t .records) (recordAt (t .records) k .lo) (recordAt (t .records) k .hi)
+
+-- 18: "not monotone", at the "first record at fault"
+unfoldable pub monotoneFault : List ℕ → Option ℕ
+monotoneFault s =
+    firstPlace (λ i. not (isMonotoneAt (tableOf s) (i - (1 + variableCount s)))) (1 + variableCount s) (recordCount s)
+
+-- ---------------------------------------------------------------------------
+-- 21 to 25: what comes with the file
+
+-- 21: "plan length is not the number of choices"
+unfoldable pub planLengthFault : List ℕ → List ℕ → Option ℕ
+planLengthFault p s = placeZero (not (eqb (length p) (choiceCount (tableOf s .variables))))
+
+-- 22: "a plan byte above 2", at the "first such index"
+unfoldable pub planMarkFault : List ℕ → List ℕ → Option ℕ
+planMarkFault p s = firstPlace (λ i. ltb 2 (getD p i 0)) 0 (length p)
+
+-- 22 "for the score also an open byte"
+unfoldable pub fullPlanFault : List ℕ → List ℕ → Option ℕ
+fullPlanFault p s = firstPlace (λ i. ltb 2 (getD p i 0) || eqb (getD p i 0) 0) 0 (length p)
+
+-- 23: "percent above 100"
+unfoldable pub percentFault : ℕ → List ℕ → Option ℕ
+percentFault percent s = placeZero (ltb 100 percent)
+
+-- 24: "kits above 20"
+unfoldable pub budgetFault : ℕ → List ℕ → Option ℕ
+budgetFault budget s = placeZero (ltb 20 budget)
+
+-- 25: "the written buffer's length is not the number of choices"
+unfoldable pub bufferFault : ℕ → List ℕ → Option ℕ
+bufferFault size s = placeZero (not (eqb size (choiceCount (tableOf s .variables))))
+
+-- ---------------------------------------------------------------------------
+-- The checks of each service: "Checks run in this table's order, each over the whole file before the next; those a service has no input for are skipped."
+
+unfoldable pub tableChecks : List Check
+tableChecks =
+    record { number = 11; fault = lengthFault }
+    ∷ record { number = 12; fault = headingFault }
+    ∷ record { number = 13; fault = countFault }
+    ∷ record { number = 14; fault = variableFault }
+    ∷ record { number = 15; fault = choiceFault }
+    ∷ record { number = 16; fault = scaleFault }
+    ∷ record { number = 17; fault = recordFault }
+    ∷ record { number = 18; fault = monotoneFault }
+    ∷ []
+
+unfoldable pub scoreChecks : (plan : List ℕ) → List Check
+scoreChecks p =
+    tableChecks
+    ++ record { number = 21; fault = planLengthFault p }
+    ∷ record { number = 22; fault = fullPlanFault p }
+    ∷ []
+
+unfoldable pub sweepChecks : (plan : List ℕ) → (size : ℕ) → List Check
+sweepChecks p size =
+    tableChecks
+    ++ record { number = 21; fault = planLengthFault p }
+    ∷ record { number = 22; fault = planMarkFault p }
+    ∷ record { number = 25; fault = bufferFault size }
+    ∷ []
+
+unfoldable pub filterChecks : (plan : List ℕ) → (percent size : ℕ) → List Check
+filterChecks p percent size =
+    tableChecks
+    ++ record { number = 21; fault = planLengthFault p }
+    ∷ record { number = 22; fault = planMarkFault p }
+    ∷ record { number = 23; fault = percentFault percent }
+    ∷ record { number = 25; fault = bufferFault size }
+    ∷ []
+
+unfoldable pub searchChecks : (plan : List ℕ) → (budget percent size : ℕ) → List Check
+searchChecks p budget percent size =
+    tableChecks
+    ++ record { number = 21; fault = planLengthFault p }
+    ∷ record { number = 22; fault = planMarkFault p }
+    ∷ record { number = 23; fault = percentFault percent }
+    ∷ record { number = 24; fault = budgetFault budget }
+    ∷ record { number = 25; fault = bufferFault size }
+    ∷ []

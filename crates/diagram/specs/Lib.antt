@@ -1,0 +1,11 @@
+-- The meaning of the planner, section by section as document 01 has it. Nothing here is about how the program computes.
+pub mod Words
+pub mod Table
+pub mod Score
+pub mod Plans
+pub mod Ranking
+pub mod Visits
+pub mod Checks
+pub mod Services
+pub mod Printout
+pub mod Starred

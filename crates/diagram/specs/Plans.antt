@@ -1,0 +1,81 @@
+-- Document 01, "Scores, drops and passing": plans and their completions, the top, the drops, passing and forced lines.
+-- A plan is a list of marks, one a choice: 0 open, 1 taken, 2 left.
+use Prim.Native.Nat.{ℕ, zero, suc, _+_, _-_, _*_}
+use mathlib.Core.Bool.{Bool, true, false, cond, not, _&&_, _||_}
+use mathlib.Core.List.{List, [], _∷_, _++_, map}
+use lib.ListN.{length, getD, set}
+use lib.Dec.{eqb, ltb}
+use Rattle.diagram.specs.Table.{Table, sequence, scale}
+use Rattle.diagram.specs.Score.{score, every}
+
+-- "A way of settling a plan's open lines, or completion, is a full plan with each open line made taken or left and every other mark kept"
+unfoldable pub completions : List ℕ → List (List ℕ)
+completions [] = [] ∷ []
+completions (zero ∷ p) = map (λ c. 1 ∷ c) (completions p) ++ map (λ c. 2 ∷ c) (completions p)
+completions (suc m ∷ p) = map (λ c. suc m ∷ c) (completions p)
+
+-- The plan with all open lines taken
+unfoldable pub openTaken : List ℕ → List ℕ
+openTaken [] = []
+openTaken (zero ∷ p) = 1 ∷ openTaken p
+openTaken (suc m ∷ p) = suc m ∷ openTaken p
+
+-- How many lines are open, and how many are taken
+unfoldable pub openCount : List ℕ → ℕ
+openCount [] = 0
+openCount (zero ∷ p) = suc (openCount p)
+openCount (suc m ∷ p) = openCount p
+
+unfoldable pub takenCount : List ℕ → ℕ
+takenCount [] = 0
+takenCount (zero ∷ p) = takenCount p
+takenCount (suc zero ∷ p) = suc (takenCount p)
+takenCount (suc (suc m) ∷ p) = takenCount p
+
+-- What a plan costs in kits: a kit for each line taken
+unfoldable pub cost : List ℕ → ℕ
+cost p = takenCount p
+
+-- Whether choice i of a plan is open, and whether a plan leaves it
+unfoldable pub isOpen : List ℕ → ℕ → Bool
+isOpen p i = eqb (getD p i 1) 0
+
+unfoldable pub leaves : List ℕ → ℕ → Bool
+leaves p i = eqb (getD p i 0) 2
+
+-- The top: "the score with all open lines taken"
+unfoldable pub upperBound : Table → List ℕ → ℕ
+upperBound t p = score t (openTaken p)
+
+-- The drop of choice i: "the top less the score with it left and the other open lines taken; for a line not open it is 0"
+unfoldable pub derivative : Table → List ℕ → ℕ → ℕ
+derivative t p i = cond (isOpen p i) (upperBound t p - score t (openTaken (set p i 2))) 0
+
+unfoldable pub derivatives : Table → List ℕ → List ℕ
+derivatives t p = sequence (derivative t p) 0 (length p)
+
+-- "A score passes percent p when 100 times the score is more than p times B"
+unfoldable pub passes : Table → (percent : ℕ) → ℕ → Bool
+passes t percent x = ltb (percent * scale t) (100 * x)
+
+unfoldable pub noneOf : {A : Type 0} → (A → Bool) → List A → Bool
+noneOf test xs = every (λ x. not (test x)) xs
+
+-- A full plan passes when its score does
+unfoldable pub passing : Table → (percent : ℕ) → List ℕ → Bool
+passing t percent c = passes t percent (score t c)
+
+-- A line is forced when it is open and no passing completion leaves it
+unfoldable pub forced : Table → (percent : ℕ) → List ℕ → ℕ → Bool
+forced t percent p i = isOpen p i && noneOf (λ c. passing t percent c && leaves c i) (completions p)
+
+-- The plan with forced lines taken, and how many there are
+unfoldable pub forcedPlan : Table → (percent : ℕ) → List ℕ → List ℕ
+forcedPlan t percent p = sequence (λ i. cond (forced t percent p i) 1 (getD p i 0)) 0 (length p)
+
+unfoldable pub countOf : (ℕ → Bool) → ℕ → ℕ
+countOf test zero = 0
+countOf test (suc n) = countOf test n + cond (test n) 1 0
+
+unfoldable pub forcedCount : Table → (percent : ℕ) → List ℕ → ℕ
+forcedCount t percent p = countOf (forced t percent p) (length p)

@@ -1,0 +1,89 @@
+-- Document 01, "The program plan and its printout": what the program prints for the bytes that it reads. Text is a list of ASCII codes.
+use Prim.Native.Nat.{ℕ, zero, suc, _+_, _/_, _%_}
+use mathlib.Core.Bool.{Bool, true, false, cond, not, _&&_, _||_}
+use mathlib.Core.List.{List, [], _∷_, _++_}
+use lib.ListN.{length, take, drop, replicate}
+use lib.Dec.{eqb, ltb}
+use Rattle.diagram.specs.Words.{wordAt, kind, fieldP, fieldQ, fieldR}
+use Rattle.diagram.specs.Table.{Table, tableOf, choiceCount, scale}
+use Rattle.diagram.specs.Score.{isTaken}
+use Rattle.diagram.specs.Plans.{cost}
+use Rattle.diagram.specs.Services.{Outcome, refused, answered, Searching, searchOutcome}
+
+-- The decimal digits of n, the first of which is 0 only for 0 itself. `fuel` is at least their number.
+unfoldable pub digits : (fuel n : ℕ) → List ℕ
+digits zero n = []
+digits (suc fuel) n =
+    elim (ltb n 10) as (λ _. List ℕ) [ true ↦ (48 + n) ∷ [] | false ↦ digits fuel (n / 10) ++ (48 + n % 10) ∷ [] ]
+
+unfoldable pub decimal : ℕ → List ℕ
+decimal n = digits (suc n) n
+
+-- "refused ", "choices ", " scale ", "kits ", " score ", " visits ", " take" and " left"
+unfoldable pub refusedWord : List ℕ
+refusedWord = 114 ∷ 101 ∷ 102 ∷ 117 ∷ 115 ∷ 101 ∷ 100 ∷ 32 ∷ []
+
+unfoldable pub choicesWord : List ℕ
+choicesWord = 99 ∷ 104 ∷ 111 ∷ 105 ∷ 99 ∷ 101 ∷ 115 ∷ 32 ∷ []
+
+unfoldable pub scaleWord : List ℕ
+scaleWord = 32 ∷ 115 ∷ 99 ∷ 97 ∷ 108 ∷ 101 ∷ 32 ∷ []
+
+unfoldable pub kitsWord : List ℕ
+kitsWord = 107 ∷ 105 ∷ 116 ∷ 115 ∷ 32 ∷ []
+
+unfoldable pub scoreWord : List ℕ
+scoreWord = 32 ∷ 115 ∷ 99 ∷ 111 ∷ 114 ∷ 101 ∷ 32 ∷ []
+
+unfoldable pub visitsWord : List ℕ
+visitsWord = 32 ∷ 118 ∷ 105 ∷ 115 ∷ 105 ∷ 116 ∷ 115 ∷ 32 ∷ []
+
+unfoldable pub takeWord : List ℕ
+takeWord = 32 ∷ 116 ∷ 97 ∷ 107 ∷ 101 ∷ []
+
+unfoldable pub leftWord : List ℕ
+leftWord = 32 ∷ 108 ∷ 101 ∷ 102 ∷ 116 ∷ []
+
+-- A line ends with a newline
+unfoldable pub line : List ℕ → List ℕ
+line text = text ++ 10 ∷ []
+
+-- "then for each choice its number and its mark": the choices from number i on
+unfoldable pub markLines : (i : ℕ) → List ℕ → List ℕ
+markLines i [] = []
+markLines i (m ∷ p) = line (decimal i ++ cond (isTaken m) takeWord leftWord) ++ markLines (suc i) p
+
+-- "A refusal prints one line, as `refused 32 0`."
+unfoldable pub refusalText : (number place : ℕ) → List ℕ
+refusalText number place = line (refusedWord ++ decimal number ++ 32 ∷ [] ++ decimal place)
+
+-- "Fields: the number of choices and B; the lines taken, score and visits; then for each choice its number and its mark."
+unfoldable pub planText : Table → Searching → List ℕ
+planText t found =
+    line (choicesWord ++ decimal (choiceCount (t .variables)) ++ scaleWord ++ decimal (scale t))
+    ++ line (kitsWord ++ decimal (cost (found .plan)) ++ scoreWord ++ decimal (found .score) ++ visitsWord ++ decimal (found .visits))
+    ++ markLines 0 (found .plan)
+
+unfoldable pub searchText : Table → Outcome Searching → List ℕ
+searchText t (refused number place) = refusalText number place
+searchText t (answered found) = planText t found
+
+-- 10: "job word missing, kind not 5, or Q not 0". The job word is the first of the input; kits are its P and the percentage its R.
+unfoldable pub isJob : List ℕ → Bool
+isJob input = eqb (kind (wordAt input 0)) 5 && eqb (fieldQ (wordAt input 0)) 0
+
+-- The search "from the fully open plan" of the table's choices, in a buffer of its own
+unfoldable pub jobOutcome : (file : List ℕ) → (budget percent : ℕ) → Outcome Searching
+jobOutcome file budget percent =
+    let choices = choiceCount (tableOf file .variables) in
+    searchOutcome file (replicate choices 0) budget percent choices
+
+-- "Plan reads one job word and then a table from standard input (at most 1,265 bytes are read)": what it prints for all that could be read
+unfoldable pub printout : List ℕ → List ℕ
+printout input =
+    let read = take 1265 input in
+    let file = drop 4 read in
+    elim (isJob read) as (λ _. List ℕ)
+    [ true ↦ searchText (tableOf file) (jobOutcome file (fieldP (wordAt read 0)) (fieldR (wordAt read 0)))
+    | false ↦ refusalText 10 0
+    ]

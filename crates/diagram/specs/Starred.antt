@@ -1,0 +1,117 @@
+-- Document 01, "Tried at the counter": the twelve starred cases, one list with one claim about it.
+use Prim.Native.Nat.{ℕ}
+use mathlib.Core.Path.{_≡_, refl}
+use mathlib.Core.List.{List, [], _∷_, map}
+use lib.ListN.{length}
+use Rattle.diagram.specs.Words.{wordAt}
+use Rattle.diagram.specs.Table.{sequence, variableCount, recordCount, variableOf, recordOf, tableOf, recordAt, root, isChoice, choiceCount, scaleOf, scale}
+use Rattle.diagram.specs.Score.{walk, truth, settlings, weight, sum, total, scoreFrom, score, assignments, every, implies}
+use Rattle.diagram.specs.Plans.{completions, openTaken, openCount, takenCount, cost, isOpen, leaves, upperBound, derivative, derivatives, passes, noneOf, passing, forced, forcedPlan, countOf, forcedCount}
+use Rattle.diagram.specs.Ranking.{takesFirst, ranksBefore, better, firstRanked, isCandidate, select, bestPlan}
+use Rattle.diagram.specs.Visits.{beaten, goesBack, lowestOpen, visit, visited, visitCount}
+use Rattle.diagram.specs.Checks.{placeZero, firstPlace, lengthFault, isHeading, headingFault, countFault, isVariableWord, variableFault, choiceFault, scaleFault, positionOf, isChild, isRecordWord, recordFault, isMonotoneAt, monotoneFault, planLengthFault, planMarkFault, fullPlanFault, percentFault, budgetFault, bufferFault, tableChecks, scoreChecks, sweepChecks, filterChecks, searchChecks}
+use Rattle.diagram.specs.Services.{Outcome, refused, answered, Reading, Sweeping, Filtering, Searching}
+use Rattle.diagram.specs.Services.{checked, written, reading, readOutcome, scoreOutcome, sweepOutcome, filtering, filterOutcome, searching, searchOutcome}
+use Rattle.diagram.specs.Printout.{digits, decimal, refusedWord, choicesWord, scaleWord, kitsWord, scoreWord, visitsWord, takeWord, leftWord, line, markLines, refusalText, planText, searchText, isJob, jobOutcome, printout}
+
+-- "Table A, (line 0 and event 1) or (line 1 and event 3), events 1/2 and 6/10"
+unfoldable pub tableA : List ℕ
+tableA =
+    0x11 ∷ 0x00 ∷ 0x20 ∷ 0x00
+    ∷ 0x20 ∷ 0x00 ∷ 0x00 ∷ 0x00
+    ∷ 0x30 ∷ 0x40 ∷ 0x08 ∷ 0x02
+    ∷ 0x20 ∷ 0x80 ∷ 0x00 ∷ 0x00
+    ∷ 0x30 ∷ 0xC0 ∷ 0x30 ∷ 0x0A
+    ∷ 0x40 ∷ 0xC0 ∷ 0x08 ∷ 0x00
+    ∷ 0x40 ∷ 0x80 ∷ 0x10 ∷ 0x00
+    ∷ 0x40 ∷ 0x40 ∷ 0x08 ∷ 0x03
+    ∷ 0x40 ∷ 0x00 ∷ 0x20 ∷ 0x03
+    ∷ []
+
+-- "Table B is 10801000 20000000 3040380A 40400800 40001000: one line, one event of 7/10." Its last word is given apart.
+unfoldable pub tableB : List ℕ → List ℕ
+tableB last =
+    0x10 ∷ 0x80 ∷ 0x10 ∷ 0x00
+    ∷ 0x20 ∷ 0x00 ∷ 0x00 ∷ 0x00
+    ∷ 0x30 ∷ 0x40 ∷ 0x38 ∷ 0x0A
+    ∷ 0x40 ∷ 0x40 ∷ 0x08 ∷ 0x00
+    ∷ last
+
+-- A request to a service, with buffers of the right size for table A; `printing` is the program on its input
+pub data Request : Type 0 where
+  read : (file : List ℕ) → Request
+  scored : (file plan : List ℕ) → Request
+  swept : (file plan : List ℕ) → Request
+  filtered : (file plan : List ℕ) → (percent : ℕ) → Request
+  searched : (file plan : List ℕ) → (budget percent : ℕ) → Request
+  printed : (input : List ℕ) → Request
+
+-- The numbers that a service returns, then what it writes
+unfoldable pub numbers : {A : Type 0} → (A → List ℕ) → Outcome A → Outcome (List ℕ)
+numbers of (refused number place) = refused number place
+numbers of (answered a) = answered (of a)
+
+unfoldable pub answerTo : Request → Outcome (List ℕ)
+unfolding numbers
+answerTo (read s) = numbers (λ a. a .variables ∷ a .records ∷ a .choices ∷ a .scale ∷ []) (readOutcome s)
+answerTo (scored s p) = numbers (λ a. a ∷ []) (scoreOutcome s p)
+answerTo (swept s p) = numbers (λ a. a .upperBound ∷ a .derivatives) (sweepOutcome s p 2)
+answerTo (filtered s p percent) = numbers (λ a. a .forced ∷ a .plan) (filterOutcome s p percent 2)
+answerTo (searched s p budget percent) = numbers (λ a. a .score ∷ a .plan) (searchOutcome s p budget percent 2)
+answerTo (printed input) = answered (printout input)
+
+-- A case: requests, and the answers that document 01 gives
+pub record Case : Type 0 where
+  pub requests : List Request
+  pub answers : List (Outcome (List ℕ))
+
+-- The fully open plan of table A
+unfoldable pub allOpen : List ℕ
+allOpen = 0 ∷ 0 ∷ []
+
+unfoldable pub starred : List Case
+starred =
+    -- A: scores 0 (none), 10 (line 0), 12 (line 1), 16 (both)
+    record
+      { requests = scored tableA (2 ∷ 2 ∷ []) ∷ scored tableA (1 ∷ 2 ∷ []) ∷ scored tableA (2 ∷ 1 ∷ []) ∷ scored tableA (1 ∷ 1 ∷ []) ∷ []
+      ; answers = answered (0 ∷ []) ∷ answered (10 ∷ []) ∷ answered (12 ∷ []) ∷ answered (16 ∷ []) ∷ []
+      }
+    -- A, all open: top 16, drops 4 and 6
+    ∷ record { requests = swept tableA allOpen ∷ []; answers = answered (16 ∷ 4 ∷ 6 ∷ []) ∷ [] }
+    -- A, all open, 50: line 1 forced, line 0 stays open
+    ∷ record { requests = filtered tableA allOpen 50 ∷ []; answers = answered (1 ∷ 0 ∷ 1 ∷ []) ∷ [] }
+    -- A, 60: both forced
+    ∷ record { requests = filtered tableA allOpen 60 ∷ []; answers = answered (2 ∷ 1 ∷ 1 ∷ []) ∷ [] }
+    -- A, 79: both forced
+    ∷ record { requests = filtered tableA allOpen 79 ∷ []; answers = answered (2 ∷ 1 ∷ 1 ∷ []) ∷ [] }
+    -- A, 80: 31
+    ∷ record { requests = filtered tableA allOpen 80 ∷ []; answers = refused 31 0 ∷ [] }
+    -- A, kits 2, percent 60: both, 16
+    ∷ record { requests = searched tableA allOpen 2 60 ∷ []; answers = answered (16 ∷ 1 ∷ 1 ∷ []) ∷ [] }
+    -- A, kits 1, percent 60: 32
+    ∷ record { requests = searched tableA allOpen 1 60 ∷ []; answers = refused 32 0 ∷ [] }
+    -- A, kits 0, percent 0: 32, since 0 is not more than 0
+    ∷ record { requests = searched tableA allOpen 0 0 ∷ []; answers = refused 32 0 ∷ [] }
+    -- B: 7 taken, 0 left
+    ∷ record
+      { requests = scored (tableB (0x40 ∷ 0x00 ∷ 0x10 ∷ 0x00 ∷ [])) (1 ∷ []) ∷ scored (tableB (0x40 ∷ 0x00 ∷ 0x10 ∷ 0x00 ∷ [])) (2 ∷ []) ∷ []
+      ; answers = answered (7 ∷ []) ∷ answered (0 ∷ []) ∷ []
+      }
+    -- B with last word 40000002: 18, place 4
+    ∷ record { requests = read (tableB (0x40 ∷ 0x00 ∷ 0x00 ∷ 0x02 ∷ [])) ∷ []; answers = refused 18 4 ∷ [] }
+    -- Empty table: 11; the program, lacking its job word, prints `refused 10 0`
+    ∷ record
+      { requests = read [] ∷ printed [] ∷ []
+      ; answers = refused 11 0 ∷ answered (114 ∷ 101 ∷ 102 ∷ 117 ∷ 115 ∷ 101 ∷ 100 ∷ 32 ∷ 49 ∷ 48 ∷ 32 ∷ 48 ∷ 10 ∷ []) ∷ []
+      }
+    ∷ []
+
+-- They are twelve
+pub twelve : length starred ≡ 12
+unfolding starred
+twelve = refl
+
+-- Each request has the answer that document 01 gives
+pub starredHold : map (λ c. map answerTo (c .requests)) starred ≡ map (λ c. c .answers) starred
+unfolding starred answerTo tableA tableB allOpen numbers wordAt sequence variableCount recordCount variableOf recordOf tableOf recordAt root isChoice choiceCount scaleOf scale walk truth settlings weight sum total scoreFrom score assignments every implies completions openTaken openCount takenCount cost isOpen leaves upperBound derivative derivatives passes noneOf passing forced forcedPlan countOf forcedCount takesFirst ranksBefore better firstRanked isCandidate select bestPlan beaten goesBack lowestOpen visit visited visitCount placeZero firstPlace lengthFault isHeading headingFault countFault isVariableWord variableFault choiceFault scaleFault positionOf isChild isRecordWord recordFault isMonotoneAt monotoneFault planLengthFault planMarkFault fullPlanFault percentFault budgetFault bufferFault tableChecks scoreChecks sweepChecks filterChecks searchChecks checked written reading readOutcome scoreOutcome sweepOutcome filtering filterOutcome searching searchOutcome digits decimal refusedWord choicesWord scaleWord kitsWord scoreWord visitsWord takeWord leftWord line markLines refusalText planText searchText isJob jobOutcome printout
+starredHold = refl

@@ -1,0 +1,79 @@
+-- Document 01, "The diagram on the counter" and "Words of a table file": the diagram that a file stands for.
+-- What a file means is defined for any bytes. Whether it is a table at all is the checks' business (Checks).
+use Prim.Native.Nat.{ℕ, zero, suc, _+_, _*_}
+use mathlib.Core.Bool.{Bool, true, false, cond}
+use mathlib.Core.List.{List, [], _∷_}
+use lib.ListN.{length, getD}
+use lib.Dec.{eqb}
+use Rattle.diagram.specs.Words.{wordAt, kind, fieldP, fieldQ, fieldR}
+
+-- f i, f (i + 1), ..: n of them
+unfoldable pub sequence : {A : Type 0} → (ℕ → A) → ℕ → ℕ → List A
+sequence f i zero = []
+sequence f i (suc n) = f i ∷ sequence f (suc i) n
+
+-- "Each variable is a choice (reinforce a line or not) or a chance (an independent event with share a out of b)"
+pub data Variable : Type 0 where
+  choice : Variable
+  chance : ℕ → ℕ → Variable
+
+-- A record: the position of its variable, and the nodes that its two arcs lead to
+pub record Record : Type 0 where
+  pub position : ℕ
+  pub hi : ℕ
+  pub lo : ℕ
+
+-- The variables by position, and the records in file order
+pub record Table : Type 0 where
+  pub variables : List Variable
+  pub records : List Record
+
+-- V and N, from the heading
+unfoldable pub variableCount : List ℕ → ℕ
+variableCount s = fieldP (wordAt s 0)
+
+unfoldable pub recordCount : List ℕ → ℕ
+recordCount s = fieldQ (wordAt s 0)
+
+-- A word of kind 2 is a choice, one of kind 3 a chance with a in Q and b in R
+unfoldable pub variableOf : ℕ → Variable
+variableOf w = cond (eqb (kind w) 2) choice (chance (fieldQ w) (fieldR w))
+
+-- A word of kind 4 has the variable position in P, the hi node in Q and the lo node in R
+unfoldable pub recordOf : ℕ → Record
+recordOf w = record { position = fieldP w; hi = fieldQ w; lo = fieldR w }
+
+-- "A file is one heading, V variable words with positions 0 to V-1 in order, then N records"
+unfoldable pub tableOf : List ℕ → Table
+tableOf s =
+    record
+      { variables = sequence (λ i. variableOf (wordAt s i)) 1 (variableCount s)
+      ; records = sequence (λ i. recordOf (wordAt s i)) (1 + variableCount s) (recordCount s)
+      }
+
+-- Record k, from 0. Past the last record it is one of zeros, which no check lets a walk reach.
+unfoldable pub recordAt : List Record → ℕ → Record
+recordAt rs k = getD rs k (record { position = 0; hi = 0; lo = 0 })
+
+-- "The root is the last record", and "record k, from 0, is node k+2"
+unfoldable pub root : Table → ℕ
+root t = length (t .records) + 1
+
+unfoldable pub isChoice : Variable → Bool
+isChoice choice = true
+isChoice (chance a b) = false
+
+-- How many variables are choices
+unfoldable pub choiceCount : List Variable → ℕ
+choiceCount [] = 0
+choiceCount (choice ∷ vs) = suc (choiceCount vs)
+choiceCount (chance a b ∷ vs) = choiceCount vs
+
+-- "B is the product of all b (1 if there are none)"
+unfoldable pub scaleOf : List Variable → ℕ
+scaleOf [] = 1
+scaleOf (choice ∷ vs) = scaleOf vs
+scaleOf (chance a b ∷ vs) = b * scaleOf vs
+
+unfoldable pub scale : Table → ℕ
+scale t = scaleOf (t .variables)
