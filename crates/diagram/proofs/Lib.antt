@@ -1,0 +1,2 @@
+-- Laws about the meaning, for the proofs of every crate above.
+pub mod Truth

@@ -1,0 +1,62 @@
+-- How the truth of a node follows from that of its children, and that it depends only on the settling from its position on.
+-- Assumes of the records what check 17 finds: see `Formed`.
+use Prim.Native.Nat.{ℕ, zero, suc, _+_, _≤_, _<_}
+use native.Mathlib.Nat.{le-refl}
+use native.Mathlib.Omega.{arith}
+use mathlib.Core.Path.{_≡_, refl, ap, sym, _∙_}
+use mathlib.Core.Bool.{Bool, true, false, cond}
+use mathlib.Core.List.{List, [], _∷_}
+use lib.ListN.{length, getD}
+use Rattle.diagram.specs.Table.{Record, recordAt}
+use Rattle.diagram.specs.Score.{walk, truth}
+use Rattle.diagram.specs.Checks.{positionOf}
+
+-- What check 17 finds of all records of a table of v variables: children have smaller numbers and stand at larger positions.
+-- It holds past the last record too, where records are of zeros.
+pub record Formed (v : ℕ) (rs : List Record) : Type 0 where
+  pub hiLess : (k : ℕ) → recordAt rs k .hi < k + 2
+  pub loLess : (k : ℕ) → recordAt rs k .lo < k + 2
+  pub hiLater : (k : ℕ) → recordAt rs k .position < positionOf v rs (recordAt rs k .hi)
+  pub loLater : (k : ℕ) → recordAt rs k .position < positionOf v rs (recordAt rs k .lo)
+
+-- ---------------------------------------------------------------------------
+-- Fuel
+
+-- the child that a settling goes to is smaller
+child-less : {v : ℕ} {rs : List Record} → Formed v rs → (b : Bool) (k : ℕ) → cond b (recordAt rs k .hi) (recordAt rs k .lo) < k + 2
+child-less h true k = h .hiLess k
+child-less h false k = h .loLess k
+
+-- as much fuel as the node's number gives what any more gives
+walk-enough : {v : ℕ} {rs : List Record} → Formed v rs → (s : List Bool) (f g n : ℕ) → n ≤ f → n ≤ g → walk f rs s n ≡ walk g rs s n
+unfolding walk
+walk-enough h s zero zero n a b = refl
+walk-enough h s zero (suc g) zero a b = refl
+walk-enough h s zero (suc g) (suc n) a b = absurd (omega arith)
+walk-enough h s (suc f) zero zero a b = refl
+walk-enough h s (suc f) zero (suc n) a b = absurd (omega arith)
+walk-enough h s (suc f) (suc g) zero a b = refl
+walk-enough h s (suc f) (suc g) (suc zero) a b = refl
+walk-enough {rs} h s (suc f) (suc g) (suc (suc k)) a b =
+    let q = getD s (recordAt rs k .position) false in
+    let c = child-less h q k in
+    walk-enough h s f g (cond q (recordAt rs k .hi) (recordAt rs k .lo)) (omega arith) (omega arith)
+
+-- ---------------------------------------------------------------------------
+-- One move
+
+pub truth-false : (rs : List Record) (s : List Bool) → truth rs s 0 ≡ false
+unfolding truth walk
+truth-false rs s = refl
+
+pub truth-true : (rs : List Record) (s : List Bool) → truth rs s 1 ≡ true
+unfolding truth walk
+truth-true rs s = refl
+
+-- the truth of record k's node is that of the child that the settling goes to
+pub truth-step : {v : ℕ} {rs : List Record} → Formed v rs → (s : List Bool) (k : ℕ) → truth rs s (suc (suc k)) ≡ truth rs s (cond (getD s (recordAt rs k .position) false) (recordAt rs k .hi) (recordAt rs k .lo))
+unfolding truth walk
+truth-step {rs} h s k =
+    let q = getD s (recordAt rs k .position) false in
+    let c = child-less h q k in
+    walk-enough h s (suc k) (cond q (recordAt rs k .hi) (recordAt rs k .lo)) (cond q (recordAt rs k .hi) (recordAt rs k .lo)) (omega arith) (le-refl _)
