@@ -47,7 +47,7 @@ unfoldable pub isVariableWord : (position : ℕ) → ℕ → Bool
 isVariableWord i w =
     eqb (fieldP w) i
     && (eqb (kind w) 2 && eqb (fieldQ w) 0 && eqb (fieldR w) 0
-        || eqb (kind w) 3 && (leb 1 (fieldR w) && leb (fieldR w) 1000) && leb (fieldQ w) (fieldR w))
+    || eqb (kind w) 3 && (leb 1 (fieldR w) && leb (fieldR w) 1000) && leb (fieldQ w) (fieldR w))
 
 -- 14: "a variable word's kind or a field wrong", at the first such word. The variable at position i is word i + 1.
 unfoldable pub variableFault : List ℕ → Option ℕ

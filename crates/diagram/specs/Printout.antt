@@ -83,7 +83,7 @@ unfoldable pub printout : List ℕ → List ℕ
 printout input =
     let read = take 1265 input in
     let file = drop 4 read in
-    elim (isJob read) as (λ _. List ℕ)
-    [ true ↦ searchText (tableOf file) (jobOutcome file (fieldP (wordAt read 0)) (fieldR (wordAt read 0)))
-    | false ↦ refusalText 10 0
+    elim (isJob read) as (λ _. List ℕ) [
+      | true ↦ searchText (tableOf file) (jobOutcome file (fieldP (wordAt read 0)) (fieldR (wordAt read 0)))
+      | false ↦ refusalText 10 0
     ]

@@ -35,12 +35,12 @@ pub record Reading : Type 0 where
 
 unfoldable pub reading : List ℕ → Reading
 reading s =
-    record
-      { variables = variableCount s
-      ; records = recordCount s
-      ; choices = choiceCount (tableOf s .variables)
-      ; scale = scale (tableOf s)
-      }
+    record {
+      variables = variableCount s;
+      records = recordCount s;
+      choices = choiceCount (tableOf s .variables);
+      scale = scale (tableOf s);
+    }
 
 unfoldable pub readOutcome : List ℕ → Outcome Reading
 readOutcome s = checked tableChecks (λ file. answered (reading file)) s
@@ -84,9 +84,9 @@ pub record Searching : Type 0 where
 
 unfoldable pub searching : Table → (budget percent : ℕ) → List ℕ → Outcome Searching
 searching t budget percent p =
-    elim (bestPlan t budget percent p) as (λ _. Outcome Searching)
-    [ none ↦ refused 32 0
-    | some c ↦ answered (record { score = score t c; visits = visitCount t budget percent p; plan = c })
+    elim (bestPlan t budget percent p) as (λ _. Outcome Searching) [
+      | none ↦ refused 32 0
+      | some c ↦ answered (record { score = score t c; visits = visitCount t budget percent p; plan = c })
     ]
 
 unfoldable pub searchOutcome : (file plan : List ℕ) → (budget percent size : ℕ) → Outcome Searching

@@ -72,10 +72,10 @@ allOpen = 0 ∷ 0 ∷ []
 unfoldable pub starred : List Case
 starred =
     -- A: scores 0 (none), 10 (line 0), 12 (line 1), 16 (both)
-    record
-      { requests = scored tableA (2 ∷ 2 ∷ []) ∷ scored tableA (1 ∷ 2 ∷ []) ∷ scored tableA (2 ∷ 1 ∷ []) ∷ scored tableA (1 ∷ 1 ∷ []) ∷ []
-      ; answers = answered (0 ∷ []) ∷ answered (10 ∷ []) ∷ answered (12 ∷ []) ∷ answered (16 ∷ []) ∷ []
-      }
+    record {
+      requests = scored tableA (2 ∷ 2 ∷ []) ∷ scored tableA (1 ∷ 2 ∷ []) ∷ scored tableA (2 ∷ 1 ∷ []) ∷ scored tableA (1 ∷ 1 ∷ []) ∷ [];
+      answers = answered (0 ∷ []) ∷ answered (10 ∷ []) ∷ answered (12 ∷ []) ∷ answered (16 ∷ []) ∷ [];
+    }
     -- A, all open: top 16, drops 4 and 6
     ∷ record { requests = swept tableA allOpen ∷ []; answers = answered (16 ∷ 4 ∷ 6 ∷ []) ∷ [] }
     -- A, all open, 50: line 1 forced, line 0 stays open
@@ -93,17 +93,17 @@ starred =
     -- A, kits 0, percent 0: 32, since 0 is not more than 0
     ∷ record { requests = searched tableA allOpen 0 0 ∷ []; answers = refused 32 0 ∷ [] }
     -- B: 7 taken, 0 left
-    ∷ record
-      { requests = scored (tableB (0x40 ∷ 0x00 ∷ 0x10 ∷ 0x00 ∷ [])) (1 ∷ []) ∷ scored (tableB (0x40 ∷ 0x00 ∷ 0x10 ∷ 0x00 ∷ [])) (2 ∷ []) ∷ []
-      ; answers = answered (7 ∷ []) ∷ answered (0 ∷ []) ∷ []
-      }
+    ∷ record {
+      requests = scored (tableB (0x40 ∷ 0x00 ∷ 0x10 ∷ 0x00 ∷ [])) (1 ∷ []) ∷ scored (tableB (0x40 ∷ 0x00 ∷ 0x10 ∷ 0x00 ∷ [])) (2 ∷ []) ∷ [];
+      answers = answered (7 ∷ []) ∷ answered (0 ∷ []) ∷ [];
+    }
     -- B with last word 40000002: 18, place 4
     ∷ record { requests = read (tableB (0x40 ∷ 0x00 ∷ 0x00 ∷ 0x02 ∷ [])) ∷ []; answers = refused 18 4 ∷ [] }
     -- Empty table: 11; the program, lacking its job word, prints `refused 10 0`
-    ∷ record
-      { requests = read [] ∷ printed [] ∷ []
-      ; answers = refused 11 0 ∷ answered (114 ∷ 101 ∷ 102 ∷ 117 ∷ 115 ∷ 101 ∷ 100 ∷ 32 ∷ 49 ∷ 48 ∷ 32 ∷ 48 ∷ 10 ∷ []) ∷ []
-      }
+    ∷ record {
+      requests = read [] ∷ printed [] ∷ [];
+      answers = refused 11 0 ∷ answered (114 ∷ 101 ∷ 102 ∷ 117 ∷ 115 ∷ 101 ∷ 100 ∷ 32 ∷ 49 ∷ 48 ∷ 32 ∷ 48 ∷ 10 ∷ []) ∷ [];
+    }
     ∷ []
 
 -- They are twelve

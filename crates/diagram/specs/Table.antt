@@ -46,10 +46,10 @@ recordOf w = record { position = fieldP w; hi = fieldQ w; lo = fieldR w }
 -- "A file is one heading, V variable words with positions 0 to V-1 in order, then N records"
 unfoldable pub tableOf : List ℕ → Table
 tableOf s =
-    record
-      { variables = sequence (λ i. variableOf (wordAt s i)) 1 (variableCount s)
-      ; records = sequence (λ i. recordOf (wordAt s i)) (1 + variableCount s) (recordCount s)
-      }
+    record {
+      variables = sequence (λ i. variableOf (wordAt s i)) 1 (variableCount s);
+      records = sequence (λ i. recordOf (wordAt s i)) (1 + variableCount s) (recordCount s);
+    }
 
 -- Record k, from 0. Past the last record it is one of zeros, which no check lets a walk reach.
 unfoldable pub recordAt : List Record → ℕ → Record

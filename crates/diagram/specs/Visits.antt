@@ -36,19 +36,19 @@ lowestOpen (suc m ∷ p) = suc (lowestOpen p)
 -- is not less than its score." The first argument is the number of open lines.
 unfoldable pub visit : ℕ → Table → (budget percent : ℕ) → List ℕ → Tally → Tally
 visit zero t budget percent p w =
-    elim (goesBack t budget percent p (w .held)) as (λ _. Tally)
-    [ true ↦ record { held = w .held; visits = suc (w .visits) }
-    | false ↦ record { held = better t (w .held) p; visits = suc (w .visits) }
+    elim (goesBack t budget percent p (w .held)) as (λ _. Tally) [
+      | true ↦ record { held = w .held; visits = suc (w .visits) }
+      | false ↦ record { held = better t (w .held) p; visits = suc (w .visits) }
     ]
 visit (suc n) t budget percent p w =
-    elim (goesBack t budget percent p (w .held)) as (λ _. Tally)
-    [ true ↦ record { held = w .held; visits = suc (w .visits) }
-    | false ↦
-        let d = lowestOpen p in
-        let u = visit n t budget percent (set p d 1) (record { held = w .held; visits = suc (w .visits) }) in
-        let x = upperBound t p - derivative t p d in
-        elim (passes t percent x && not (beaten t (u .held) x)) as (λ _. Tally)
-        [ true ↦ visit n t budget percent (set p d 2) u | false ↦ u ]
+    elim (goesBack t budget percent p (w .held)) as (λ _. Tally) [
+      | true ↦ record { held = w .held; visits = suc (w .visits) }
+      | false ↦
+          let d = lowestOpen p in
+          let u = visit n t budget percent (set p d 1) (record { held = w .held; visits = suc (w .visits) }) in
+          let x = upperBound t p - derivative t p d in
+          elim (passes t percent x && not (beaten t (u .held) x)) as (λ _. Tally)
+          [ true ↦ visit n t budget percent (set p d 2) u | false ↦ u ]
     ]
 
 -- What a search from plan p holds and has counted at its end

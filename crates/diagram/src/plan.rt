@@ -12,7 +12,9 @@ pub struct Plan {
 
 impl Plan {
     pub const OPEN: u8 = 0;
+
     pub const TAKEN: u8 = 1;
+
     pub const LEFT: u8 = 2;
     // The most choices that a table has.
     pub const MOST: usize = 20;
@@ -48,5 +50,9 @@ impl Plan {
 fn most(count: usize) -> usize
     ensures { λ r. ⌜ r ≡ min count 20 ⌝ }
 {
-    if count < Plan::MOST { count } else { Plan::MOST }
+    if count < Plan::MOST {
+        count
+    } else {
+        Plan::MOST
+    }
 }
