@@ -1,4 +1,4 @@
--- How the truth of a node follows from that of its children, and that it depends only on the settling from its position on.
+-- How the truth of a node follows from that of its children.
 -- Assumes of the records what check 17 finds: see `Formed`.
 use Prim.Native.Nat.{ℕ, zero, suc, _+_, _≤_, _<_}
 use native.Mathlib.Nat.{le-refl}
@@ -23,7 +23,7 @@ pub record Formed (v : ℕ) (rs : List Record) : Type 0 where
 -- Fuel
 
 -- the child that a settling goes to is smaller
-child-less : {v : ℕ} {rs : List Record} → Formed v rs → (b : Bool) (k : ℕ) → cond b (recordAt rs k .hi) (recordAt rs k .lo) < k + 2
+pub child-less : {v : ℕ} {rs : List Record} → Formed v rs → (b : Bool) (k : ℕ) → cond b (recordAt rs k .hi) (recordAt rs k .lo) < k + 2
 child-less h true k = h .hiLess k
 child-less h false k = h .loLess k
 
