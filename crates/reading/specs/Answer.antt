@@ -1,0 +1,26 @@
+-- The enums of this crate in the terms of the meaning: each case with the paper's number and values.
+use Prim.Native.Nat.{ℕ}
+use mathlib.Core.Option.{Option, none, some}
+use Rattle.diagram.specs.Services.{Outcome, refused, answered, Reading}
+use Rattle.reading.specs.declared.answer.ReadAnswer.{ReadAnswer}
+use Rattle.reading.specs.declared.answer.ReadAnswer.the-variants.{Table, Refused}
+use Rattle.reading.specs.declared.answer.Fault.{Fault}
+use Rattle.reading.specs.declared.answer.Fault.the-variants.{At, Nowhere}
+use Rattle.reading.specs.declared.answer.Bounded.{Bounded}
+use Rattle.reading.specs.declared.answer.Bounded.the-variants.{Within, Above}
+
+-- What `read` answers: V, N, the number of choices and B, or a refusal's number and place
+unfoldable pub outcomeOf : ReadAnswer → Outcome Reading
+outcomeOf (Table t) =
+    answered (record { variables = t .variables; records = t .records; choices = t .choices; scale = t .scale })
+outcomeOf (Refused r) = refused (r .number) (r .place)
+
+-- The place that a check finds, if any
+unfoldable pub faultOf : Option ℕ → Fault
+faultOf none = Nowhere
+faultOf (some i) = At i
+
+-- A number where a check finds no fault, and else the place of the fault
+unfoldable pub boundedBy : Option ℕ → ℕ → Bounded
+boundedBy none x = Within x
+boundedBy (some i) x = Above i

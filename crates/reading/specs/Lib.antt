@@ -1,0 +1,3 @@
+-- What the enums of this crate stand for, and what its arrays hold.
+pub mod Answer
+pub mod Nodes

@@ -1,0 +1,28 @@
+// What reading answers, and what its checks answer.
+use diagram::Refusal;
+
+// V, N, the number of choices and B of a table.
+pub struct Summary {
+    pub variables: usize,
+    pub records: usize,
+    pub choices: usize,
+    pub scale: u64,
+}
+
+// The table's numbers, or why the file is turned away.
+pub enum ReadAnswer {
+    Table(Summary),
+    Refused(Refusal),
+}
+
+// The place that a check finds at fault, as a word of the file.
+pub enum Fault {
+    At(usize),
+    Nowhere,
+}
+
+// A number within its limit, or the word where it first is above.
+pub enum Bounded {
+    Within(u64),
+    Above(usize),
+}

@@ -1,0 +1,117 @@
+// The checks 14 to 16: the variable words, the number of choices and the product of b.
+use crate::answer::Bounded;
+use crate::answer::Fault;
+use diagram::Position;
+use diagram::field_p;
+use diagram::field_q;
+use diagram::field_r;
+use diagram::kind;
+use diagram::word_at;
+use crate::words::variable_count;
+ghost use mathlib.Core.Path.{_≡_};
+ghost use Prim.Native.Nat.{_≤_, _<_, _*_, _+_, _^_};
+ghost use lib.Dec.{ltb};
+ghost use Rattle.diagram.specs.Words.{wordAt};
+ghost use Rattle.diagram.specs.Table.{tableOf, choiceCount, scaleOf, variableOf, isChoice};
+ghost use Rattle.diagram.specs.Checks.{isVariableWord, variableFault, choiceFault, scaleFault};
+ghost use Rattle.reading.specs.Answer.{faultOf, boundedBy};
+
+// Check 14.
+pub fn variable_fault(file: &[u8]) -> Fault
+    ensures { λ r. ⌜ r ≡ faultOf (variableFault (now (file .entry))) ⌝ }
+{
+    let v = variable_count(file);
+    let mut p = 0;
+    while p < v {
+        let at = Position::new(p);
+        if !is_variable_word(at, word_at(file, at.word())) {
+            return Fault::At(at.word());
+        }
+        p += 1;
+    }
+    Fault::Nowhere
+}
+
+fn is_variable_word(at: Position, w: u32) -> bool
+    ensures { λ r. ⌜ r ≡ isVariableWord (at .0) w ⌝ }
+{
+    if field_p(w) as usize != at.number() {
+        return false;
+    }
+    let a = field_q(w);
+    let b = field_r(w);
+    if kind(w) == 2 {
+        if a != 0 {
+            return false;
+        }
+        return b == 0;
+    }
+    if kind(w) != 3 {
+        return false;
+    }
+    if b < 1 {
+        return false;
+    }
+    if 1000 < b {
+        return false;
+    }
+    a <= b
+}
+
+// Whether the variable at a position is a choice.
+pub fn is_choice(file: &[u8], at: Position) -> bool
+    ensures { λ r. ⌜ r ≡ isChoice (variableOf (wordAt (now (file .entry)) (1 + at .0))) ⌝ }
+{
+    kind(word_at(file, at.word())) == 2
+}
+
+// Check 15: the number of choices.
+pub fn choices(file: &[u8]) -> Bounded
+    ensures { λ r. ⌜ r ≡ boundedBy (choiceFault (now (file .entry))) (choiceCount (tableOf (now (file .entry)) .variables)) ⌝ }
+{
+    let v = variable_count(file);
+    let mut count = 0;
+    let mut p = 0;
+    while p < v {
+        let at = Position::new(p);
+        if is_choice(file, at) {
+            if count == 20 {
+                return Bounded::Above(at.word());
+            }
+            count += 1;
+        }
+        p += 1;
+    }
+    Bounded::Within(count)
+}
+
+// Check 16: the product of b. Each product is tested before it is made.
+pub fn scale(file: &[u8]) -> Bounded
+    ensures { λ r. ⌜ r ≡ boundedBy (scaleFault (now (file .entry))) (scaleOf (tableOf (now (file .entry)) .variables)) ⌝ }
+{
+    let v = variable_count(file);
+    let mut product = 1;
+    let mut p = 0;
+    while p < v {
+        let at = Position::new(p);
+        if !is_choice(file, at) {
+            let b = field_r(word_at(file, at.word())) as u64;
+            if exceeds(product, b) {
+                return Bounded::Above(at.word());
+            }
+            product *= b;
+        }
+        p += 1;
+    }
+    Bounded::Within(product)
+}
+
+// Whether a product of two numbers is above 2^56, found without making it.
+fn exceeds(x: u64, b: u64) -> bool
+    ensures { λ r. ⌜ r ≡ ltb (2 ^ 56) (x * b) ⌝ }
+{
+    if b == 0 {
+        return false;
+    }
+    72057594037927936 / b < x
+}

@@ -1,0 +1,93 @@
+// The checks 11 to 13: the file's length and its heading.
+use crate::answer::Fault;
+use diagram::field_p;
+use diagram::field_q;
+use diagram::field_r;
+use diagram::kind;
+use diagram::word_at;
+ghost use mathlib.Core.Path.{_≡_};
+ghost use Prim.Native.Nat.{_<_};
+ghost use Rattle.diagram.specs.Table.{variableCount, recordCount};
+ghost use Rattle.diagram.specs.Checks.{lengthFault, isHeading, headingFault, countFault};
+ghost use Rattle.reading.specs.Answer.{faultOf};
+
+// V, the number of variables: P of the heading.
+pub fn variable_count(file: &[u8]) -> u8
+    ensures count { λ r. ⌜ r ≡ variableCount (now (file .entry)) ⌝ }
+    ensures small { λ r. ⌜ r < 64 ⌝ }
+{
+    field_p(word_at(file, 0)) as u8
+}
+
+// N, the number of records: Q of the heading.
+pub fn record_count(file: &[u8]) -> usize
+    ensures count { λ r. ⌜ r ≡ recordCount (now (file .entry)) ⌝ }
+    ensures small { λ r. ⌜ r < 2048 ⌝ }
+{
+    field_q(word_at(file, 0)) as usize
+}
+
+// Check 11.
+pub fn length_fault(file: &[u8]) -> Fault
+    ensures { λ r. ⌜ r ≡ faultOf (lengthFault (now (file .entry))) ⌝ }
+{
+    let n = file.len();
+    if n < 4 {
+        return Fault::At(0);
+    }
+    if 1260 < n {
+        return Fault::At(0);
+    }
+    if n % 4 == 0 {
+        Fault::Nowhere
+    } else {
+        Fault::At(0)
+    }
+}
+
+// Check 12.
+pub fn heading_fault(file: &[u8]) -> Fault
+    ensures { λ r. ⌜ r ≡ faultOf (headingFault (now (file .entry))) ⌝ }
+{
+    if is_heading(word_at(file, 0)) {
+        Fault::Nowhere
+    } else {
+        Fault::At(0)
+    }
+}
+
+fn is_heading(w: u32) -> bool
+    ensures { λ r. ⌜ r ≡ isHeading w ⌝ }
+{
+    if kind(w) != 1 {
+        return false;
+    }
+    let v = field_p(w);
+    if v < 1 {
+        return false;
+    }
+    if 60 < v {
+        return false;
+    }
+    let n = field_q(w);
+    if n < 1 {
+        return false;
+    }
+    if 254 < n {
+        return false;
+    }
+    field_r(w) == 0
+}
+
+// Check 13.
+pub fn count_fault(file: &[u8]) -> Fault
+    ensures { λ r. ⌜ r ≡ faultOf (countFault (now (file .entry))) ⌝ }
+{
+    let v = variable_count(file) as usize;
+    let n = record_count(file);
+    if file.len() == 4 * (1 + v + n) {
+        Fault::Nowhere
+    } else {
+        Fault::At(0)
+    }
+}
