@@ -8,35 +8,18 @@ use mathlib.Core.Bool.{Bool, true, false, cond, not, _&&_, _||_, false≢true, a
 use mathlib.Core.Logic.{_↔_}
 use mathlib.Core.List.{List, [], _∷_, _++_, map}
 use mathlib.Mathlib.Data.Bool.Basic.{eq-false-of-not-eq-true}
-use lib.ListN.{getD}
+use lib.ListN.{length, getD}
 use lib.Dec.{eqb}
 use borrow.Author.Tests.{eqb-true, eqb-false, eq-eqb, ne-eqb}
 use Rattle.diagram.specs.Table.{Record, recordAt}
 use Rattle.diagram.specs.Score.{walk, truth, assignments, every, implies}
 use Rattle.diagram.specs.Checks.{positionOf}
+use Rattle.diagram.proofs.Every.{implied, implication, both-ways, all-every, each-assignment}
 use Rattle.diagram.proofs.Truth.{Formed, child-less, truth-false, truth-true, truth-step}
 use Rattle.diagram.proofs.Locality.{child-later, truth-within}
 
 -- ---------------------------------------------------------------------------
 -- Every assignment
-
-pub all-every : {A : Type 0} (test : A → Bool) → ((x : A) → test x ≡ true) → (xs : List A) → every test xs ≡ true
-unfolding every
-all-every test h [] = refl
-all-every test h (x ∷ xs) = and-eq-true-iff (test x) _ .1 (h x, all-every test h xs)
-
-pub every-append : {A : Type 0} (test : A → Bool) (xs ys : List A) → every test (xs ++ ys) ≡ true → (every test xs ≡ true) × (every test ys ≡ true)
-unfolding every
-every-append test [] ys h = (refl, h)
-every-append test (x ∷ xs) ys h =
-    let p = and-eq-true-iff (test x) _ .0 h in
-    let q = every-append test xs ys (p .1) in
-    (and-eq-true-iff (test x) _ .1 (p .0, q .0), q .1)
-
-pub every-map : {A B : Type 0} (test : B → Bool) (f : A → B) (xs : List A) → every test (map f xs) ≡ every (λ x. test (f x)) xs
-unfolding every
-every-map test f [] = refl
-every-map test f (x ∷ xs) = ap (λ (b : Bool). test (f x) && b) (every-map test f xs)
 
 -- the assignment of v variables that settles variable i as g i
 settled : (v : ℕ) → (ℕ → Bool) → List Bool
@@ -49,31 +32,20 @@ settled-at zero g i l = absurd (omega arith)
 settled-at (suc v) g zero l = refl
 settled-at (suc v) g (suc i) l = settled-at v (λ j. g (suc j)) i (omega arith)
 
--- what holds of every assignment holds of those that settle the first variable as b
-every-first : (v : ℕ) (test : List Bool → Bool) → every test (assignments (suc v)) ≡ true → (b : Bool) → every (λ s. test (b ∷ s)) (assignments v) ≡ true
-unfolding assignments
-every-first v test h true = rw every-map at (every-append test (map (λ s. true ∷ s) (assignments v)) _ h .0)
-every-first v test h false = rw every-map at (every-append test (map (λ s. true ∷ s) (assignments v)) _ h .1)
+settled-length : (v : ℕ) (g : ℕ → Bool) → length (settled v g) ≡ v
+unfolding settled
+settled-length zero g = refl
+settled-length (suc v) g = ap suc (settled-length v (λ i. g (suc i)))
 
 every-settled : (v : ℕ) (g : ℕ → Bool) (test : List Bool → Bool) → every test (assignments v) ≡ true → test (settled v g) ≡ true
-unfolding every assignments settled
-every-settled zero g test h = and-eq-true-iff (test []) _ .0 h .0
-every-settled (suc v) g test h = every-settled v (λ i. g (suc i)) (λ s. test (g 0 ∷ s)) (every-first v test h (g 0))
+every-settled v g test h = each-assignment test (settled v g) v (settled-length v g) h
 
 -- ---------------------------------------------------------------------------
 -- Implication under every settling
 
-or-by-cases : (a b : Bool) → (a ≡ true → b ≡ true) → (not a || b) ≡ true
-or-by-cases true b h = h refl
-or-by-cases false b h = refl
-
-cases-by-or : (a b : Bool) → (not a || b) ≡ true → a ≡ true → b ≡ true
-cases-by-or true b h e = h
-cases-by-or false b h e = absurd (false≢true e)
-
 pub all-implies : (v : ℕ) (rs : List Record) (m n : ℕ) → ((s : List Bool) → truth rs s m ≡ true → truth rs s n ≡ true) → implies v rs m n ≡ true
 unfolding implies
-all-implies v rs m n h = all-every _ (λ s. or-by-cases (truth rs s m) _ (h s)) (assignments v)
+all-implies v rs m n h = all-every _ (λ s. implication (truth rs s m) _ (h s)) (assignments v)
 
 -- a settling of any length is, on the v variables, one of the assignments
 pub implies-all : {v : ℕ} {rs : List Record} → Formed v rs → (m n : ℕ) → implies v rs m n ≡ true → (s : List Bool) → truth rs s m ≡ true → truth rs s n ≡ true
@@ -81,7 +53,7 @@ unfolding implies
 implies-all {v} {rs} h m n i s e =
     let u = settled v (λ i. getD s i false) in
     let same : (k : ℕ) → truth rs u k ≡ truth rs s k = λ k. truth-within h u s k (λ i _ l. settled-at v _ i l) in
-    sym (same n) ∙ cases-by-or (truth rs u m) _ (every-settled v _ _ i) (same m ∙ e)
+    sym (same n) ∙ implied (truth rs u m) (every-settled v _ _ i) (same m ∙ e)
 
 pub implies-false-end : (v : ℕ) (rs : List Record) (n : ℕ) → implies v rs 0 n ≡ true
 implies-false-end v rs n = all-implies v rs 0 n (λ s e. absurd (false≢true (sym (truth-false rs s) ∙ e)))
@@ -137,11 +109,6 @@ module _ {v : ℕ} {rs : List Record} (h : Formed v rs) where
 
 -- ---------------------------------------------------------------------------
 -- Implication by pairs of children
-
-both-ways : (a b : Bool) → (a ≡ true → b ≡ true) → (b ≡ true → a ≡ true) → a ≡ b
-both-ways true b f g = sym (f refl)
-both-ways false true f g = g refl
-both-ways false false f g = refl
 
 module _ {v : ℕ} {rs : List Record} (h : Formed v rs) where
   -- the truth of a node is that of what the settling leads to at position x
