@@ -1,0 +1,111 @@
+-- How a list of checks decides a request: it stops at the first fault, a list in two parts is run one after the other, and a file that reading answers
+-- has passed every check of a table.
+-- Assumes nothing.
+use Prim.Native.Nat.{ℕ}
+use native.Mathlib.Omega.{arith}
+use mathlib.Core.Path.{_≡_, refl, ap, sym, _∙_}
+use mathlib.Core.Option.{Option, none, some}
+use mathlib.Core.List.{List, [], _∷_, _++_}
+use Rattle.diagram.specs.Checks.{Check, lengthFault, headingFault, countFault, variableFault, choiceFault, scaleFault, recordFault, monotoneFault, tableChecks}
+use Rattle.diagram.specs.Services.{Outcome, refused, answered, checked, Reading, reading, readOutcome}
+
+-- ---------------------------------------------------------------------------
+-- One check
+
+module _ {A : Type 0} (c : Check) (cs : List Check) (answer : List ℕ → Outcome A) (s : List ℕ) where
+  pub checked-passes : c .fault s ≡ none → checked (c ∷ cs) answer s ≡ checked cs answer s
+  unfolding checked
+  checked-passes e = rw (e, checked) refl
+
+  pub checked-stops : (i : ℕ) → c .fault s ≡ some i → checked (c ∷ cs) answer s ≡ refused (c .number) i
+  unfolding checked
+  checked-stops i e = rw (e, checked) refl
+
+-- ---------------------------------------------------------------------------
+-- Lists of checks
+
+answered-not-refused : {A : Type 0} (a : A) (n i : ℕ) → answered a ≡ refused n i → ⊥
+answered-not-refused a n i e =
+    let z : _≡_ {A = ℕ} 0 1 = cc in
+    omega arith
+
+-- a list in two parts
+pub checked-append : {A : Type 0} (s : List ℕ) (cs ds : List Check) (answer : List ℕ → Outcome A) → checked (cs ++ ds) answer s ≡ checked cs (checked ds answer) s
+unfolding checked
+checked-append s [] ds answer = refl
+checked-append s (c ∷ cs) ds answer = go (c .fault s) refl (checked-append s cs ds answer)
+  where
+    go : (o : Option ℕ) → c .fault s ≡ o → checked (cs ++ ds) answer s ≡ checked cs (checked ds answer) s → checked (c ∷ (cs ++ ds)) answer s ≡ checked (c ∷ cs) (checked ds answer) s
+    go none e rest = checked-passes c (cs ++ ds) answer s e ∙ rest ∙ sym (checked-passes c cs (checked ds answer) s e)
+    go (some i) e rest = checked-stops c (cs ++ ds) answer s i e ∙ sym (checked-stops c cs (checked ds answer) s i e)
+
+module _ {A B : Type 0} (s : List ℕ) where
+  -- where one answer is given, so is any other that the same checks let through
+  pub checked-answered : (cs : List Check) (f : List ℕ → A) (a : A) (answer : List ℕ → Outcome B) → checked cs (λ file. answered (f file)) s ≡ answered a → checked cs answer s ≡ answer s
+  unfolding checked
+  checked-answered [] f a answer e = refl
+  checked-answered (c ∷ cs) f a answer e = go (c .fault s) refl (checked-answered cs f a answer)
+    where
+      go : (o : Option ℕ) → c .fault s ≡ o → (checked cs (λ file. answered (f file)) s ≡ answered a → checked cs answer s ≡ answer s) → checked (c ∷ cs) answer s ≡ answer s
+      go none q rest = checked-passes c cs answer s q ∙ rest (sym (checked-passes c cs (λ file. answered (f file)) s q) ∙ e)
+      go (some i) q rest = absurd (answered-not-refused a (c .number) i (sym e ∙ checked-stops c cs (λ file. answered (f file)) s i q))
+
+  -- where a file is refused, it is whatever it is wanted for
+  pub checked-refused : (cs : List Check) (f : List ℕ → A) (n i : ℕ) (answer : List ℕ → Outcome B) → checked cs (λ file. answered (f file)) s ≡ refused n i → checked cs answer s ≡ refused n i
+  unfolding checked
+  checked-refused [] f n i answer e = absurd (answered-not-refused (f s) n i e)
+  checked-refused (c ∷ cs) f n i answer e = go (c .fault s) refl (checked-refused cs f n i answer)
+    where
+      same-refusal : (m j : ℕ) → _≡_ {A = Outcome A} (refused m j) (refused n i) → _≡_ {A = Outcome B} (refused m j) (refused n i)
+      same-refusal m j q =
+          let a : m ≡ n = cc in
+          let b : j ≡ i = cc in
+          rw (a, b) refl
+
+      go : (o : Option ℕ) → c .fault s ≡ o → (checked cs (λ file. answered (f file)) s ≡ refused n i → checked cs answer s ≡ refused n i) → checked (c ∷ cs) answer s ≡ refused n i
+      go none q rest = checked-passes c cs answer s q ∙ rest (sym (checked-passes c cs (λ file. answered (f file)) s q) ∙ e)
+      go (some j) q rest = checked-stops c cs answer s j q ∙ same-refusal (c .number) j (sym (checked-stops c cs (λ file. answered (f file)) s j q) ∙ e)
+
+-- ---------------------------------------------------------------------------
+-- The checks of a table
+
+-- A file that no check of a table finds at fault
+pub record Passed (s : List ℕ) : Type 0 where
+  pub length : lengthFault s ≡ none
+  pub heading : headingFault s ≡ none
+  pub count : countFault s ≡ none
+  pub variables : variableFault s ≡ none
+  pub choices : choiceFault s ≡ none
+  pub scale : scaleFault s ≡ none
+  pub records : recordFault s ≡ none
+  pub monotone : monotoneFault s ≡ none
+
+-- the first check of a list that answers has passed, and so has the rest
+first-passed : (c : Check) (cs : List Check) (s : List ℕ) (r : Reading) → checked (c ∷ cs) (λ file. answered (reading file)) s ≡ answered r → (c .fault s ≡ none) × (checked cs (λ file. answered (reading file)) s ≡ answered r)
+first-passed c cs s r e = go (c .fault s) refl
+  where
+    go : (o : Option ℕ) → c .fault s ≡ o → (c .fault s ≡ none) × (checked cs (λ file. answered (reading file)) s ≡ answered r)
+    go none q = (q, sym (checked-passes c cs (λ file. answered (reading file)) s q) ∙ e)
+    go (some i) q = absurd (answered-not-refused r (c .number) i (sym e ∙ checked-stops c cs (λ file. answered (reading file)) s i q))
+
+pub read-passed : (s : List ℕ) (r : Reading) → readOutcome s ≡ answered r → Passed s
+unfolding readOutcome tableChecks
+read-passed s r e =
+    let c11 = first-passed _ _ s r e in
+    let c12 = first-passed _ _ s r (c11 .1) in
+    let c13 = first-passed _ _ s r (c12 .1) in
+    let c14 = first-passed _ _ s r (c13 .1) in
+    let c15 = first-passed _ _ s r (c14 .1) in
+    let c16 = first-passed _ _ s r (c15 .1) in
+    let c17 = first-passed _ _ s r (c16 .1) in
+    let c18 = first-passed _ _ s r (c17 .1) in
+    record {
+      length = c11 .0;
+      heading = c12 .0;
+      count = c13 .0;
+      variables = c14 .0;
+      choices = c15 .0;
+      scale = c16 .0;
+      records = c17 .0;
+      monotone = c18 .0;
+    }
