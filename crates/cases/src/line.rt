@@ -1,0 +1,80 @@
+// A line of the input, as far as it has come.
+ghost use Prim.Native.Nat.{_≤_};
+
+pub struct Line {
+    pub part: u8,
+    pub service: u8,
+    // How many bytes the file has, and the upper half of the next one, 16 where there is none yet.
+    pub count: usize,
+    pub half: u8,
+}
+
+impl Line {
+    pub const LABEL: u8 = 0;
+    pub const SERVICE: u8 = 1;
+    pub const FILE: u8 = 2;
+
+    pub fn new() -> Line {
+        Line {
+            part: Line::LABEL,
+            service: 0,
+            count: 0,
+            half: 16,
+        }
+    }
+
+    // A byte of the label.
+    pub fn labelled(mut self, b: u8) -> Line {
+        if b == b':' {
+            self.part = Line::SERVICE;
+        }
+        self
+    }
+
+    // The letter of the service.
+    pub fn named(mut self, b: u8) -> Line {
+        if b != b' ' {
+            self.service = b;
+            self.part = Line::FILE;
+        }
+        self
+    }
+
+    // A digit of the file, or a space.
+    pub fn digit(mut self, b: u8, file: &mut [u8; 1400]) -> Line {
+        let d = value(b);
+        if 15 < d {
+            return self;
+        }
+        let at = self.count;
+        let half = self.half;
+        if 15 < half {
+            self.half = d;
+            return self;
+        }
+        if at < 1400 {
+            file[at] = half * 16 + d;
+            self.count = at + 1;
+        }
+        self.half = 16;
+        self
+    }
+
+    // How many bytes of the file there are.
+    pub fn length(self) -> usize
+        ensures { λ r. ⌜ r ≤ 1400 ⌝ }
+    {
+        let n = self.count;
+        if n <= 1400 { n } else { 1400 }
+    }
+}
+
+// The value of a hexadecimal digit, or 16.
+fn value(b: u8) -> u8 {
+    match b {
+        b'0'..=b'9' => b - b'0',
+        b'a'..=b'f' => b - b'a' + 10,
+        b'A'..=b'F' => b - b'A' + 10,
+        _ => 16,
+    }
+}

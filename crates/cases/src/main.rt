@@ -1,0 +1,60 @@
+// Runs the services on the cases of standard input, a line each, and writes what they answer.
+//
+// A line is a label, a colon, a letter for the service (r reads), and the file's bytes in hexadecimal; spaces count for
+// nothing. The label is written back, and then the answer. A line without a colon is written back as it is.
+mod line;
+mod show;
+
+use line::Line;
+
+fn main() {
+    let mut file = [0u8; 1400];
+    let mut chunk = [0u8; 4096];
+    let mut line = Line::new();
+    let mut turns: usize = 100000;
+    while turns > 0 {
+        let n = io::read_full(libc::STDIN_FILENO, &mut chunk);
+        if n == 0 {
+            return;
+        }
+        line = feed(line, &chunk[..n], &mut file);
+        turns -= 1;
+    }
+}
+
+// Takes some bytes of the input.
+fn feed(line: Line, bytes: &[u8], file: &mut [u8; 1400]) -> Line {
+    let mut now = line;
+    let mut i = 0;
+    while i < bytes.len() {
+        now = step(now, bytes[i], file);
+        i += 1;
+    }
+    now
+}
+
+// Takes one byte of the input. The end of a line runs its case.
+fn step(line: Line, b: u8, file: &mut [u8; 1400]) -> Line {
+    if line.part == Line::LABEL {
+        show::text(&[b]);
+        return line.labelled(b);
+    }
+    if b == b'\n' {
+        run(line, file);
+        return Line::new();
+    }
+    if line.part == Line::SERVICE {
+        return line.named(b);
+    }
+    line.digit(b, file)
+}
+
+// Runs the case of a line.
+fn run(line: Line, file: &[u8; 1400]) {
+    let n = line.length();
+    if line.service == b'r' {
+        show::reading(reading::read(&file[..n]));
+    } else {
+        show::text(b" no such service\n");
+    }
+}
