@@ -1,0 +1,193 @@
+#!/usr/bin/env python3
+"""Writes the input of the test program `cases` and what it has to write, the latter by oracle.py. Run it in this folder."""
+import random
+
+from oracle import Refused, bytes_of, fields, read, show_read, word, words_of
+
+A = [0x11002000, 0x20000000, 0x30400802, 0x20800000, 0x30C0300A, 0x40C00800, 0x40801000, 0x40400803, 0x40002003]
+B = [0x10801000, 0x20000000, 0x3040380A, 0x40400800, 0x40001000]
+
+lines, answers = [], []
+
+
+def note(text):
+    assert ":" not in text
+    lines.append("# " + text)
+    answers.append("# " + text)
+
+
+def reads(label, data):
+    if not isinstance(data, bytes):
+        data = bytes_of(data)
+    text = " ".join(data[i:i + 4].hex() for i in range(0, len(data), 4))
+    lines.append(f"{label}: r {text}".rstrip())
+    answers.append(f"{label}:{show_read(data)}")
+
+
+def choice(p):
+    return word(2, p, 0, 0)
+
+
+def chance(p, a, b):
+    return word(3, p, a, b)
+
+
+def record(p, hi, lo):
+    return word(4, p, hi, lo)
+
+
+def table(variables, records):
+    return [word(1, len(variables), len(records), 0)] + variables + records
+
+
+def put(words, i, w):
+    return words[:i] + [w] + words[i + 1:]
+
+
+note("Tables A and B of document 01")
+reads("A", A)
+reads("B", B)
+reads("B with last word 40000002", put(B, 4, 0x40000002))
+
+note("A cut at every length")
+for n in range(0, 37):
+    reads(f"A, {n} bytes", bytes_of(A)[:n])
+reads("A and a byte", bytes_of(A) + b"\0")
+
+note("Limits")
+last = [record(0, 1, 0)]
+for n in (16, 17, 18):
+    reads(f"{n} chances of b 10", table([chance(i, 3, 10) for i in range(n)], last))
+for b in (1, 1000, 1001, 2047):
+    reads(f"b {b}", table([chance(0, 1, b)], last))
+reads("b 0", table([chance(0, 0, 0)], last))
+reads("a equal to b", table([chance(0, 7, 7)], last))
+reads("a above b", table([chance(0, 8, 7)], last))
+reads("a 0", table([chance(0, 0, 7)], last))
+for n in (56, 57):
+    reads(f"{n} chances of b 2", table([chance(i, 1, 2) for i in range(n)], last))
+for n in (5, 6):
+    reads(f"{n} chances of b 1000", table([chance(i, 1, 1000) for i in range(n)], last))
+for v in (60, 61):
+    reads(f"V {v}", table([chance(i, 1, 1) for i in range(v)], last))
+for n in (254, 255):
+    reads(f"N {n}", table([chance(0, 1, 2)], [record(0, 1, 0)] * n))
+reads("V 0", [word(1, 0, 1, 0), record(0, 1, 0)])
+reads("N 0", [word(1, 1, 0, 0), chance(0, 1, 2)])
+for n in (20, 21):
+    reads(f"{n} choices", table([choice(i) for i in range(n)], last))
+reads("the 21st choice after chances", table([choice(i) if i % 2 else chance(i, 1, 1) for i in range(45)], last))
+wide = [choice(i) if i % 3 == 0 else chance(i, 1, 2) if i < 40 else chance(i, 1, 1) for i in range(60)]
+deep = [record(59 - k // 5, 1 if k < 5 else k // 5 * 5 - 3 + k % 5, 0) for k in range(254)]
+reads("the largest table", table(wide, deep))
+reads("the largest table and a word", table(wide, deep) + [record(0, 1, 0)])
+
+note("11 before 12, an empty word, too long, no whole words")
+reads("one zero word", [0])
+reads("1264 bytes", [0] * 316)
+reads("5 bytes", bytes(5))
+
+note("12, kind, V, N and R of the heading")
+for w in (0x21002000, 0x01002000, 0xF1002000, 0x10002000, 0x1F402000, 0x11000000, 0x1107F800, 0x11002001, 0x110027FF):
+    reads(f"heading {w:08x}", put(A, 0, w))
+
+note("13, a word missing, a word too many")
+reads("A less a word", A[:-1])
+reads("A and a word", A + [A[-1]])
+reads("heading alone", A[:1])
+
+note("14, kind, position and fields of a variable word, at the first and at a later place")
+for i in (1, 2, 3, 4):
+    kind, p, q, r = fields(A[i])
+    for k in (0, 1, 4, 5, 15):
+        reads(f"word {i} of kind {k}", put(A, i, word(k, p, q, r)))
+    reads(f"word {i} with the position before", put(A, i, word(kind, (p - 1) % 64, q, r)))
+    reads(f"word {i} with the position after", put(A, i, word(kind, p + 1, q, r)))
+    for q, r in ((1, 0), (0, 1), (5, 4), (0, 0), (0, 1001), (1001, 1001), (1000, 1000)):
+        reads(f"word {i} with Q {q} and R {r}", put(A, i, word(kind, p, q, r)))
+
+note("17, kind, position and children of a record, at the first and at a later place")
+for i in (5, 6, 7, 8):
+    kind, p, hi, lo = fields(A[i])
+    own = i - 5 + 2
+    for k in (0, 3, 5):
+        reads(f"word {i} of kind {k}", put(A, i, word(k, p, hi, lo)))
+    for q in (0, 1, 2, 3, 4, 63):
+        reads(f"word {i} at position {q}", put(A, i, word(4, q, hi, lo)))
+    for child in (0, 1, own - 1, own, own + 1, 255, 256, 257, 2047):
+        reads(f"word {i} with hi {child}", put(A, i, word(4, p, child, lo)))
+        reads(f"word {i} with lo {child}", put(A, i, word(4, p, hi, child)))
+same = [choice(0), chance(1, 1, 2)]
+reads("hi at the same position", table(same, [record(1, 1, 0), record(1, 2, 0)]))
+reads("lo at the same position", table(same, [record(1, 1, 0), record(1, 1, 2)]))
+reads("hi at a smaller position", table(same, [record(0, 1, 0), record(1, 2, 0)]))
+reads("lo at a smaller position", table(same, [record(0, 1, 0), record(1, 1, 2)]))
+
+note("18, by truth and never by shares, on unreachable records too")
+two = [choice(0), choice(1), chance(2, 1, 2)]
+reads("first record", table(two, [record(0, 0, 1), record(0, 1, 0)]))
+reads("a later record", table(two, [record(2, 1, 0), record(1, 1, 2), record(0, 2, 1)]))
+reads("an unreachable record", table(two, [record(1, 0, 1), record(0, 1, 0)]))
+reads("a record above a faulty one", table(two, [record(1, 0, 1), record(0, 1, 2)]))
+reads("hi equal to lo", table(two, [record(2, 1, 0), record(0, 2, 2)]))
+reads("equal records", table(two, [record(2, 1, 0), record(2, 1, 0), record(0, 2, 3)]))
+reads("equal records the other way", table(two, [record(2, 1, 0), record(2, 1, 0), record(0, 3, 2)]))
+never = [choice(0), chance(1, 0, 2), chance(2, 1, 2)]
+reads("scores rise, truth does not", table(never, [record(2, 1, 0), record(1, 1, 0), record(0, 2, 3)]))
+always = [choice(0), chance(1, 2, 2)]
+reads("certain event", table(always, [record(1, 1, 0), record(0, 2, 1)]))
+reads("lo implies hi by cases", table([choice(0), chance(1, 1, 2), chance(2, 1, 2)],
+      [record(2, 1, 0), record(1, 2, 0), record(1, 1, 2), record(0, 4, 3)]))
+reads("hi implies lo by cases", table([choice(0), chance(1, 1, 2), chance(2, 1, 2)],
+      [record(2, 1, 0), record(1, 2, 0), record(1, 1, 2), record(0, 3, 4)]))
+reads("a chance record may fall", table([chance(0, 1, 2)], [record(0, 0, 1)]))
+
+note("Two faults, the first check in order decides, wherever the second stands")
+reads("11 and 12", bytes_of([0x21002000])[:3])
+reads("12 and 13", put(A, 0, 0x11002001)[:-1])
+reads("13 and 14", put(A, 1, 0)[:-1])
+many = [choice(i) for i in range(21)] + [chance(i, 1, 1000) for i in range(21, 30)]
+reads("14 after 15 and 16", table(many + [word(3, 30, 1, 0)], last))
+reads("15 after 16", table([chance(i, 1, 1000) for i in range(9)] + [choice(i) for i in range(9, 30)], last))
+reads("15 before 16", table(many, last))
+reads("16 and 17", table([chance(i, 1, 1000) for i in range(9)], [record(0, 1, 2)]))
+reads("17 after 18", table(two, [record(0, 0, 1), record(0, 1, 3)]))
+reads("17 and 18 at one record", table(two, [record(2, 1, 0), record(0, 0, 5)]))
+reads("14 twice", put(put(A, 3, 0), 4, 0))
+reads("17 twice", put(put(A, 6, 0), 8, 0))
+reads("18 twice", table(two, [record(1, 0, 1), record(0, 0, 1)]))
+
+rng = random.Random(7)
+
+
+def made(v, n):
+    """A table whose records are in order; about half are monotone."""
+    variables = [choice(i) if rng.random() < 0.5 else chance(i, rng.randint(0, 4), 4) for i in range(v)]
+    records, at = [], []
+    for k in range(n):
+        p = rng.randrange(v)
+        below = [0, 1] + [j + 2 for j in range(k) if at[j] > p]
+        hi, lo = rng.choice(below), rng.choice(below)
+        if variables[p] >> 28 == 2 and rng.random() < 0.7:
+            lo = min(lo, hi) if hi < 2 or lo < 2 else lo
+            if lo == 1:
+                hi = 1
+        records.append(record(p, hi, lo))
+        at.append(p)
+    return table(variables, records)
+
+
+note("Made tables, right in form")
+for i in range(150):
+    reads(f"made {i}", made(rng.randint(1, 7), rng.randint(1, 12)))
+
+note("Made tables with one word changed")
+for i in range(150):
+    t = made(rng.randint(1, 5), rng.randint(1, 8))
+    j = rng.randrange(len(t))
+    reads(f"damaged {i}", put(t, j, t[j] ^ 1 << rng.randrange(32)))
+
+with open("../crates/cases/stdin", "w") as out:
+    out.write("\n".join(lines) + "\n")
+with open("../crates/cases/stdout", "w") as out:
+    out.write("\n".join(answers) + "\n")

@@ -1,0 +1,125 @@
+"""Answers of the planner's services, written from document 01 alone and by enumeration: what the test programs are compared with.
+
+Nothing here is shared with the crates. A table is a list of words (ints); a file is bytes.
+"""
+from itertools import product
+
+LIMIT = 2 ** 56
+
+
+class Refused(Exception):
+    def __init__(self, number, place):
+        self.number, self.place = number, place
+
+
+def words_of(data):
+    return [int.from_bytes(data[i:i + 4], "big") for i in range(0, len(data) - 3, 4)]
+
+
+def fields(word):
+    return word >> 28, word >> 22 & 63, word >> 11 & 2047, word & 2047
+
+
+def bytes_of(words):
+    return b"".join(w.to_bytes(4, "big") for w in words)
+
+
+def word(kind, p, q, r):
+    return kind << 28 | p << 22 | q << 11 | r
+
+
+class Table:
+    def __init__(self, variables, records):
+        self.variables = variables  # None for a choice, (a, b) for a chance
+        self.records = records  # (position, hi, lo)
+        self.choices = [i for i, v in enumerate(variables) if v is None]
+        self.scale = 1
+        for v in variables:
+            if v:
+                self.scale *= v[1]
+
+    def truth(self, node, assignment):
+        while node > 1:
+            position, hi, lo = self.records[node - 2]
+            node = hi if assignment[position] else lo
+        return node == 1
+
+    def support(self, *nodes):
+        """The variables that a walk from one of these nodes can meet."""
+        seen, todo, found = set(), list(nodes), set()
+        while todo:
+            n = todo.pop()
+            if n < 2 or n in seen:
+                continue
+            seen.add(n)
+            position, hi, lo = self.records[n - 2]
+            found.add(position)
+            todo += [hi, lo]
+        return sorted(found)
+
+    def implies(self, m, n):
+        """Whether every settling that leads from m to true leads from n to true; a variable that no walk meets does not matter."""
+        if m == 0 or n == 1:
+            return True
+        met = self.support(m, n)
+        if len(met) > 16:
+            raise ValueError("too many variables to enumerate")
+        assignment = [False] * len(self.variables)
+        for values in product([False, True], repeat=len(met)):
+            for p, v in zip(met, values):
+                assignment[p] = v
+            if self.truth(m, assignment) and not self.truth(n, assignment):
+                return False
+        return True
+
+
+def read(data):
+    """The table, or a refusal 11 to 18."""
+    if len(data) < 4 or len(data) > 1260 or len(data) % 4:
+        raise Refused(11, 0)
+    ws = words_of(data)
+    kind, v, n, r = fields(ws[0])
+    if kind != 1 or not 1 <= v <= 60 or not 1 <= n <= 254 or r:
+        raise Refused(12, 0)
+    if len(ws) != 1 + v + n:
+        raise Refused(13, 0)
+    variables = []
+    for i in range(1, v + 1):
+        kind, p, q, r = fields(ws[i])
+        choice = kind == 2 and q == 0 and r == 0
+        chance = kind == 3 and 1 <= r <= 1000 and q <= r
+        if p != i - 1 or not (choice or chance):
+            raise Refused(14, i)
+        variables.append(None if choice else (q, r))
+    count = 0
+    for i in range(1, v + 1):
+        count += variables[i - 1] is None
+        if count > 20:
+            raise Refused(15, i)
+    scale = 1
+    for i in range(1, v + 1):
+        scale *= variables[i - 1][1] if variables[i - 1] else 1
+        if scale > LIMIT:
+            raise Refused(16, i)
+    records = []
+    for k in range(n):
+        kind, p, hi, lo = fields(ws[1 + v + k])
+        right = kind == 4 and p < v
+        for child in (hi, lo):
+            right = right and child < k + 2 and (child < 2 or records[child - 2][0] > p)
+        if not right:
+            raise Refused(17, 1 + v + k)
+        records.append((p, hi, lo))
+    table = Table(variables, records)
+    for k, (p, hi, lo) in enumerate(records):
+        if variables[p] is None and not table.implies(lo, hi):
+            raise Refused(18, 1 + v + k)
+    return table
+
+
+def show_read(data):
+    try:
+        t = read(data)
+    except Refused as r:
+        return f" refused {r.number} {r.place}"
+    return f" table {len(t.variables)} {len(t.records)} {len(t.choices)} {t.scale}"
