@@ -1,6 +1,6 @@
 // The three numberings of one diagram. A number of one kind becomes one of another only by a function named here.
 ghost use mathlib.Core.Path.{_≡_};
-ghost use Prim.Native.Nat.{_+_, _%_};
+ghost use Prim.Native.Nat.{_+_, _<_};
 
 // A choice number: the choices are numbered from 0 by position.
 pub struct Choice(u8);
@@ -57,5 +57,13 @@ impl Node {
         ensures { λ r. ⌜ r ≡ self .0 ⌝ }
     {
         self.0 as usize
+    }
+
+    // The node of record k. Whoever calls has k below the number of records, which is at most 254.
+    pub fn of_record(k: usize) -> Node
+        requires { ⌜ k < 254 ⌝ }
+        ensures { λ r. ⌜ r .0 ≡ k + 2 ⌝ }
+    {
+        Node((k + 2) as u8)
     }
 }
