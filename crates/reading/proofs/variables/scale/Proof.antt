@@ -1,84 +1,101 @@
+-- `scale` meets its contract. The loop's invariant: the product is that of the first p variables, at most 2^56, and no place before is at fault.
+-- The measure is the number of variables left. Assumes nothing.
+use Prim.Native.Nat.{_-_, _*_, _^_, _<_}
+use native.Mathlib.Omega.{arith}
+use mathlib.Core.Path.{_≡_, sym, _∙_}
+use mathlib.Core.Logic.{⊎-elim}
+use borrow.Author.Tests.{ltb-true, ltb-false, not-true, not-false}
+use Rattle.diagram.specs.Table.{isChoice, scaleOf, variableCount}
+use Rattle.diagram.specs.Checks.{scaleFault}
+use Rattle.reading.specs.Answer.{boundedBy}
+use Rattle.reading.proofs.Counting.{next, Prefix, prefix-start, prefix-next, prefix-above, prefix-end, scale-more, scale-same}
 use Rattle.reading.proofs.variables.scale.Statement.{statement}
 use Rattle.reading.proofs.variables.scale.Tie as tie
-use Rattle.reading.proofs.variables.scale.Reads as reads
-use Rattle.reading.proofs.variables.scale.Lts as lts
-use Rattle.diagram.proofs.numbering.Position.new.Reads as new-reads
-use Rattle.diagram.proofs.numbering.Position.word.Reads as word-reads
-use Rattle.diagram.proofs.field_r.Reads as field-r-reads
-use Rattle.diagram.proofs.word_at.Reads as word-at-reads
-use Rattle.reading.proofs.variables.exceeds.Reads as exceeds-reads
-use Rattle.reading.proofs.variables.is_choice.Reads as is-choice-reads
-use Rattle.reading.proofs.words.variable_count.Reads as variable-count-reads
 
 abbrev Inv-loop : tie.InvT-loop
-Inv-loop file v product₀ p₀ product p = ?
+Inv-loop file v product₀ p₀ product p = Prefix scaleOf (2 ^ 56) file p product
 
 abbrev μ-loop : tie.MeasureT-loop
-μ-loop file v product₀ p₀ product p = ?
+μ-loop file v product₀ p₀ product p = v - p
 
--- src/variables.rt:92:9
+-- the test of a turn
+tested : (c : tie.After-is-choice Inv-loop μ-loop) → isChoice (next (c .before .before .before .before .before .before .args .file .now) (c .before .before .before .loop .p)) ≡ c .is-choice .result
+tested c = rw (c .is-choice .ensures, c .before .new .ensures)
+
 variable-count-requires : tie.Need-variable-count-requires Inv-loop μ-loop
-variable-count-requires c κs = ?
+variable-count-requires c κs = tt
 
--- src/variables.rt:95:5
 loop-holds : tie.Need-loop-holds Inv-loop μ-loop
-loop-holds c = ?
+unfolding scaleOf
+loop-holds c = prefix-start scaleOf (2 ^ 56) _ (omega arith)
 
--- src/variables.rt:96:13
 new-requires : tie.Need-new-requires Inv-loop μ-loop
-new-requires c κs = ?
+new-requires c κs = tt
 
--- src/variables.rt:97:13
 is-choice-requires : tie.Need-is-choice-requires Inv-loop μ-loop
-is-choice-requires c κs = ?
+is-choice-requires c κs = tt
 
--- src/variables.rt:98:43
 word-requires : tie.Need-word-requires Inv-loop μ-loop
-word-requires c κs = ?
+word-requires c κs = tt
 
--- src/variables.rt:98:29
 word-at-requires : tie.Need-word-at-requires Inv-loop μ-loop
-word-at-requires c κs = ?
+word-at-requires c κs = tt
 
--- src/variables.rt:98:21
 field-r-requires : tie.Need-field-r-requires Inv-loop μ-loop
-field-r-requires c κs = ?
+field-r-requires c κs = tt
 
--- src/variables.rt:98:21
 cast-b : tie.Need-cast-b Inv-loop μ-loop
-cast-b c = ?
+cast-b c = omega arith
 
--- src/variables.rt:99:16
 exceeds-requires : tie.Need-exceeds-requires Inv-loop μ-loop
-exceeds-requires c κs = ?
+exceeds-requires c κs = tt
 
--- src/variables.rt:100:39
 word-requires-2 : tie.Need-word-requires-2 Inv-loop μ-loop
-word-requires-2 c κs = ?
+word-requires-2 c κs = tt
 
--- src/variables.rt:100:17
 returns : tie.Need-returns Inv-loop μ-loop
-returns c = ?
+unfolding scaleFault boundedBy
+returns c =
+    let at = c .before .before .before .before .before .before .before .before .before .before in
+    let s = at .before .before .before .args .file .now in
+    let p = at .loop .p in
+    let x = at .loop .product in
+    let chance = tested (c .before .before .before .before .before .before .before) ∙ not-true _ (c .before .before .before .before .before .before .if1 .taken) in
+    let more = scale-more s p (omega arith) x (at .loop .inv .value) chance (omega arith) (c .before .before .before .before .word-at .ensures) (c .before .before .before .field-r .ensures) in
+    let over = ltb-true (2 ^ 56) (x * c .before .before .before .field-r .result) (sym (c .before .before .exceeds .ensures) ∙ c .before .if2 .taken) in
+    rw (c .word2 .ensures, c .before .before .before .before .before .before .before .before .new .ensures, prefix-above scaleOf (2 ^ 56) s p (at .loop .inv) (omega arith) (omega arith))
 
--- src/variables.rt:102:13
 mul-product : tie.Need-mul-product Inv-loop μ-loop
-mul-product c = ?
+mul-product c =
+    omega (arith, ltb-false (2 ^ 56) (c .before .before .before .before .before .before .before .before .before .loop .product * c .before .before .field-r .result) (sym (c .before .exceeds .ensures) ∙ c .if2 .left))
 
--- src/variables.rt:104:9
 add-p : tie.Need-add-p Inv-loop μ-loop
-add-p c = ?
+add-p c = omega arith
 
--- src/variables.rt:95:5
 loop-less : tie.Need-loop-less Inv-loop μ-loop
-loop-less c = ?
+loop-less c = omega arith
 
--- src/variables.rt:95:5
 loop-again : tie.Need-loop-again Inv-loop μ-loop
-loop-again c = ?
+loop-again c =
+    let at = c .before .before .before .before in
+    let s = at .before .before .before .args .file .now in
+    let p = at .loop .p in
+    let x = at .loop .product in
+    let h : p < variableCount s = omega arith in
+    ⊎-elim
+    (λ w.
+    let chance = tested (c .before) ∙ not-true _ (w .0 .taken) in
+    let more = scale-more s p h x (at .loop .inv .value) chance (omega arith) (w .2 .ensures) (w .3 .ensures) in
+    let within = ltb-false (2 ^ 56) (x * w .3 .result) (sym (w .4 .ensures) ∙ w .5 .left) in
+    prefix-next scaleOf (2 ^ 56) s p (at .loop .inv) h _ (omega arith) (omega arith))
+    (λ w.
+    let same = scale-same s p h (tested (c .before) ∙ not-false _ (w .0 .left)) in
+    prefix-next scaleOf (2 ^ 56) s p (at .loop .inv) h _ (omega arith) (omega arith))
+    (c .if1 .came)
 
--- src/variables.rt:89:1
 returns-2 : tie.Need-returns-2 Inv-loop μ-loop
-returns-2 c = ?
+unfolding scaleFault
+returns-2 c = prefix-end scaleOf (2 ^ 56) _ _ (c .before .loop .inv) (omega arith)
 
 pub scale-spec : {M : Type 1} → statement M
 scale-spec =

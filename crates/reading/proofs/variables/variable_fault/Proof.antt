@@ -1,66 +1,83 @@
+-- `variable_fault` meets its contract. The loop's invariant: the first place at fault is the first from the next word on.
+-- The measure is the number of variables left. Assumes nothing.
+use Prim.Native.Nat.{ℕ, _+_, _-_}
+use native.Mathlib.Omega.{arith}
+use mathlib.Core.Path.{_≡_, _∙_}
+use mathlib.Core.Bool.{Bool, not}
+use mathlib.Core.List.{List}
+use Rattle.diagram.specs.Words.{wordAt}
+use Rattle.diagram.specs.Table.{variableCount}
+use Rattle.diagram.specs.Checks.{isVariableWord, firstPlace, variableFault}
+use Rattle.diagram.proofs.Places.{place-start, place-here, place-next, place-end}
+use Rattle.reading.specs.Answer.{faultOf}
 use Rattle.reading.proofs.variables.variable_fault.Statement.{statement}
 use Rattle.reading.proofs.variables.variable_fault.Tie as tie
-use Rattle.reading.proofs.variables.variable_fault.Reads as reads
-use Rattle.reading.proofs.variables.variable_fault.Lts as lts
-use Rattle.diagram.proofs.numbering.Position.new.Reads as new-reads
-use Rattle.diagram.proofs.numbering.Position.word.Reads as word-reads
-use Rattle.diagram.proofs.word_at.Reads as word-at-reads
-use Rattle.reading.proofs.variables.is_variable_word.Reads as is-variable-word-reads
-use Rattle.reading.proofs.words.variable_count.Reads as variable-count-reads
+
+-- word i is not the one that the variable there has
+abbrev wrong : (file : List ℕ) → ℕ → Bool
+wrong s i = not (isVariableWord (i - 1) (wordAt s i))
 
 abbrev Inv-loop : tie.InvT-loop
-Inv-loop file v p₀ p = ?
+Inv-loop file v p₀ p = variableFault file ≡ firstPlace (wrong file) (1 + p) (variableCount file - p)
 
 abbrev μ-loop : tie.MeasureT-loop
-μ-loop file v p₀ p = ?
+μ-loop file v p₀ p = v - p
 
--- src/variables.rt:23:9
+-- the test of a turn
+tested : (c : tie.After-is-variable-word Inv-loop μ-loop) → wrong (c .before .before .before .before .before .before .before .before .args .file .now) (1 + c .before .before .before .before .before .loop .p) ≡ not (c .is-variable-word .result)
+tested c =
+    let back : 1 + c .before .before .before .before .before .loop .p - 1 ≡ c .before .before .before .before .before .loop .p = omega arith in
+    rw (back, c .is-variable-word .ensures, c .before .word-at .ensures, c .before .before .word .ensures, c .before .before .before .new .ensures)
+
 variable-count-requires : tie.Need-variable-count-requires Inv-loop μ-loop
-variable-count-requires c κs = ?
+variable-count-requires c κs = tt
 
--- src/variables.rt:25:5
 loop-holds : tie.Need-loop-holds Inv-loop μ-loop
-loop-holds c = ?
+unfolding variableFault
+loop-holds c = place-start (wrong _) 1 _
 
--- src/variables.rt:26:13
 new-requires : tie.Need-new-requires Inv-loop μ-loop
-new-requires c κs = ?
+new-requires c κs = tt
 
--- src/variables.rt:27:48
 word-requires : tie.Need-word-requires Inv-loop μ-loop
-word-requires c κs = ?
+word-requires c κs = tt
 
--- src/variables.rt:27:34
 word-at-requires : tie.Need-word-at-requires Inv-loop μ-loop
-word-at-requires c κs = ?
+word-at-requires c κs = tt
 
--- src/variables.rt:27:13
 is-variable-word-requires : tie.Need-is-variable-word-requires Inv-loop μ-loop
-is-variable-word-requires c κs = ?
+is-variable-word-requires c κs = tt
 
--- src/variables.rt:28:30
 word-requires-2 : tie.Need-word-requires-2 Inv-loop μ-loop
-word-requires-2 c κs = ?
+word-requires-2 c κs = tt
 
--- src/variables.rt:28:13
 returns : tie.Need-returns Inv-loop μ-loop
-returns c = ?
+unfolding faultOf
+returns c =
+    let at = c .before .before .before .before .before .before .before in
+    let s = at .before .before .before .args .file .now in
+    let p = at .loop .p in
+    rw (c .word2 .ensures, c .before .before .before .before .before .new .ensures, at .loop .inv, place-here (wrong s) 1 (variableCount s) p (omega arith) (tested (c .before .before) ∙ c .before .if1 .taken))
 
--- src/variables.rt:30:9
 add-p : tie.Need-add-p Inv-loop μ-loop
-add-p c = ?
+add-p c = omega arith
 
--- src/variables.rt:25:5
 loop-less : tie.Need-loop-less Inv-loop μ-loop
-loop-less c = ?
+loop-less c = omega arith
 
--- src/variables.rt:25:5
 loop-again : tie.Need-loop-again Inv-loop μ-loop
-loop-again c = ?
+loop-again c =
+    let at = c .before .before .before .before .before .before in
+    let s = at .before .before .before .args .file .now in
+    let p = at .loop .p in
+    at .loop .inv ∙ place-next (wrong s) 1 (variableCount s) p (omega arith) (tested (c .before) ∙ c .if1 .left)
 
--- src/variables.rt:20:1
 returns-2 : tie.Need-returns-2 Inv-loop μ-loop
-returns-2 c = ?
+unfolding faultOf
+returns-2 c =
+    let s = c .before .before .before .before .args .file .now in
+    let p = c .before .loop .p in
+    rw (c .before .loop .inv, place-end (wrong s) (1 + p) (variableCount s) p (omega arith))
 
 pub variable-fault-spec : {M : Type 1} → statement M
 variable-fault-spec =

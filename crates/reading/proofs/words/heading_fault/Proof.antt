@@ -1,26 +1,23 @@
+-- `heading_fault` meets its contract: `is_heading` is asked of word 0. Assumes nothing.
 use borrow.Author.Needs.{needs}
+use Rattle.diagram.specs.Checks.{headingFault, placeZero}
+use Rattle.reading.specs.Answer.{faultOf}
 use Rattle.reading.proofs.words.heading_fault.Statement.{statement}
 use Rattle.reading.proofs.words.heading_fault.Tie as tie
-use Rattle.reading.proofs.words.heading_fault.Reads as reads
-use Rattle.reading.proofs.words.heading_fault.Lts as lts
-use Rattle.diagram.proofs.word_at.Reads as word-at-reads
-use Rattle.reading.proofs.words.is_heading.Reads as is-heading-reads
 
--- src/words.rt:52:19
 word-at-requires : tie.Need-word-at-requires
 word-at-requires c κs = search needs
 
--- src/words.rt:52:8
 is-heading-requires : tie.Need-is-heading-requires
 is-heading-requires c κs = search needs
 
--- src/words.rt:49:1
 returns : tie.Need-returns
-returns c = ?
+unfolding faultOf headingFault placeZero
+returns c = rw (← c .before .before .word-at .ensures, ← c .before .is-heading .ensures, c .if1 .taken)
 
--- src/words.rt:49:1
 returns-2 : tie.Need-returns-2
-returns-2 c = ?
+unfolding faultOf headingFault placeZero
+returns-2 c = rw (← c .before .before .word-at .ensures, ← c .before .is-heading .ensures, c .if1 .left)
 
 pub heading-fault-spec : {M : Type 1} → statement M
 heading-fault-spec = tie.close (tie.spec word-at-requires is-heading-requires returns returns-2)
