@@ -1,2 +1,4 @@
 -- Laws for the proofs of this crate's functions.
 pub mod Counting
+pub mod Shape
+pub mod Pairing

@@ -60,4 +60,4 @@ pub record Decided (ps hs ls memo : List ℕ) (m n : ℕ) (r : Bool) : Type 0 wh
 pub record Known (v : ℕ) (rs : List Record) (m n r : ℕ) : Type 0 where
   pub implied : r ≡ 1 → implies v rs m n ≡ true
   pub refuted : r ≡ 2 → implies v rs m n ≡ false
-  pub unknown : (r ≡ 1 → ⊥) → (r ≡ 2 → ⊥) → 2 < m + n
+  pub unknown : (r ≡ 1 → ⊥) → (r ≡ 2 → ⊥) → m < 2 → n < 2 → ⊥

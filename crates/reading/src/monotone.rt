@@ -33,7 +33,13 @@ pub fn monotone_fault(file: &[u8]) -> Fault
 }
 
 // The first record at fault. The arrays hold the file's records.
-fn first_fault(file: &[u8], memo: &mut [u8; 65536], positions: &[u8; 256], high: &[u8; 256], low: &[u8; 256]) -> Fault
+fn first_fault(
+    file: &[u8],
+    memo: &mut [u8; 65536],
+    positions: &[u8; 256],
+    high: &[u8; 256],
+    low: &[u8; 256],
+) -> Fault
     requires { ⌜ Held (now file) (now positions) (now high) (now low) (now memo) ⌝ }
     ensures { λ r. ⌜ r ≡ faultOf (monotoneFault (now (file .entry))) ⌝ }
 {
@@ -50,7 +56,14 @@ fn first_fault(file: &[u8], memo: &mut [u8; 65536], positions: &[u8; 256], high:
 }
 
 // Whether record k is no choice's, or its low child implies its high one.
-fn is_monotone_at(file: &[u8], memo: &mut [u8; 65536], positions: &[u8; 256], high: &[u8; 256], low: &[u8; 256], k: usize) -> bool
+fn is_monotone_at(
+    file: &[u8],
+    memo: &mut [u8; 65536],
+    positions: &[u8; 256],
+    high: &[u8; 256],
+    low: &[u8; 256],
+    k: usize,
+) -> bool
     requires { ⌜ Held (now file) (now positions) (now high) (now low) (now memo) × (k < recordCount (now file)) ⌝ }
     ensures answer { λ r. ⌜ r ≡ isMonotoneAt (tableOf (now (file .entry))) k ⌝ }
     ensures right { λ r. ⌜ Right (endOf (now (positions .entry))) (recordsOf (now (positions .entry)) (now (high .entry)) (now (low .entry))) (now (memo .exit)) ⌝ }
@@ -59,12 +72,26 @@ fn is_monotone_at(file: &[u8], memo: &mut [u8; 65536], positions: &[u8; 256], hi
     if !is_choice(file, position_of(positions, node)) {
         return true;
     }
-    implied(memo, positions, high, low, child_of(low, node), child_of(high, node))
+    implied(
+        memo,
+        positions,
+        high,
+        low,
+        child_of(low, node),
+        child_of(high, node),
+    )
 }
 
 // Whether every assignment that leads from m to true leads from n to true: decided by the pairs of their children at the
 // smaller position. The memo holds the pairs decided so far, and only pairs that are met are decided.
-fn implied(memo: &mut [u8; 65536], positions: &[u8; 256], high: &[u8; 256], low: &[u8; 256], m: Node, n: Node) -> bool
+fn implied(
+    memo: &mut [u8; 65536],
+    positions: &[u8; 256],
+    high: &[u8; 256],
+    low: &[u8; 256],
+    m: Node,
+    n: Node,
+) -> bool
     requires { ⌜ Pairs (now positions) (now high) (now low) (now memo) ⌝ }
     ensures { λ r. ⌜ Decided (now (positions .entry)) (now (high .entry)) (now (low .entry)) (now (memo .exit)) (m .0) (n .0) r ⌝ }
 {
@@ -76,10 +103,24 @@ fn implied(memo: &mut [u8; 65536], positions: &[u8; 256], high: &[u8; 256], low:
         return false;
     }
     let x = first_position(positions, m, n);
-    if !implied(memo, positions, high, low, follow(positions, high, x, m), follow(positions, high, x, n)) {
+    if !implied(
+        memo,
+        positions,
+        high,
+        low,
+        follow(positions, high, x, m),
+        follow(positions, high, x, n),
+    ) {
         return remember(memo, m, n, false);
     }
-    let r = implied(memo, positions, high, low, follow(positions, low, x, m), follow(positions, low, x, n));
+    let r = implied(
+        memo,
+        positions,
+        high,
+        low,
+        follow(positions, low, x, m),
+        follow(positions, low, x, n),
+    );
     remember(memo, m, n, r)
 }
 

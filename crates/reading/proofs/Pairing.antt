@@ -1,0 +1,306 @@
+-- The arrays by node number hold a table's records, and the memo of pairs stays right as pairs are decided by their children.
+-- Assumes of the records what check 17 finds, where a law says so: see `Formed`.
+use Prim.Native.Nat.{ℕ, zero, suc, _+_, _-_, _*_, _≤_, _<_, min}
+use native.Mathlib.Nat.{zero-add, eq-or-lt-of-le}
+use native.Mathlib.Decide.{decLt}
+use native.Mathlib.Omega.{arith}
+use mathlib.Core.Path.{_≡_, refl, ap, sym, _∙_}
+use mathlib.Core.Bool.{Bool, true, false, cond, not, _&&_, _||_}
+use mathlib.Core.Logic.{_⊎_, inl, inr, ⊎-elim, ⊎-map, by-cases}
+use mathlib.Core.List.{List, [], _∷_}
+use lib.ListN.{length, getD, set, replicate}
+use lib.Dec.{eqb}
+use borrow.Author.Tests.{ne-eqb, not-true, not-false}
+use Rattle.diagram.specs.Words.{wordAt}
+use Rattle.diagram.specs.Table.{chance, Record, recordAt, tableOf, variableOf, isChoice, variableCount, recordCount}
+use Rattle.diagram.specs.Score.{walk, truth, implies}
+use Rattle.diagram.specs.Checks.{positionOf, isMonotoneAt}
+use Rattle.diagram.proofs.Places.{sequence-length, sequence-at, sequence-past}
+use Rattle.diagram.proofs.Truth.{Formed}
+use Rattle.diagram.proofs.Locality.{position-le, position-less}
+use Rattle.diagram.proofs.Implication.{hiOf, loOf, follow, follow-le, follow-less, implies-split}
+use Rattle.reading.specs.Nodes.{column, recordsOf, endOf, cellOf, Right, Pairs, Held, Decided, Known}
+use Rattle.reading.proofs.Counting.{variables-length}
+use Rattle.reading.proofs.Shape.{heading-records, record-past, shaped-formed}
+
+-- ---------------------------------------------------------------------------
+-- The records that arrays hold
+
+module _ (ps hs ls : List ℕ) where
+  pub held-at : (k : ℕ) → k < 254 → recordAt (recordsOf ps hs ls) k ≡ record { position = getD ps (k + 2) 0; hi = getD hs (k + 2) 0; lo = getD ls (k + 2) 0 }
+  unfolding recordAt recordsOf
+  held-at k l = sequence-at _ 0 254 k _ l ∙ rw zero-add
+
+  held-past : (k : ℕ) → 254 ≤ k → recordAt (recordsOf ps hs ls) k ≡ record { position = 0; hi = 0; lo = 0 }
+  unfolding recordAt recordsOf
+  held-past k l = sequence-past _ 0 254 k _ l
+
+-- ---------------------------------------------------------------------------
+-- Records that are alike
+
+module _ (rs rs′ : List Record) (same : (k : ℕ) → recordAt rs k ≡ recordAt rs′ k) where
+  walk-alike : (f : ℕ) (s : List Bool) (n : ℕ) → walk f rs s n ≡ walk f rs′ s n
+  unfolding walk
+  walk-alike zero s n = refl
+  walk-alike (suc f) s zero = refl
+  walk-alike (suc f) s (suc zero) = refl
+  walk-alike (suc f) s (suc (suc k)) = rw (same k) (walk-alike f s _)
+
+  truth-alike : (s : List Bool) (n : ℕ) → truth rs s n ≡ truth rs′ s n
+  unfolding truth
+  truth-alike s n = walk-alike n s n
+
+  pub implies-alike : (v m n : ℕ) → implies v rs m n ≡ implies v rs′ m n
+  unfolding implies
+  implies-alike v m n = simp truth-alike
+
+  position-alike : (v n : ℕ) → positionOf v rs n ≡ positionOf v rs′ n
+  unfolding positionOf
+  position-alike v zero = refl
+  position-alike v (suc zero) = refl
+  position-alike v (suc (suc k)) = ap (λ (r : Record). r .position) (same k)
+
+  pub formed-alike : {v : ℕ} → Formed v rs → Formed v rs′
+  formed-alike {v} h =
+      record {
+        hiLess = λ k. rw (same k) at (h .hiLess k);
+        loLess = λ k. rw (same k) at (h .loLess k);
+        hiLater = λ k. rw (same k, position-alike) at (h .hiLater k);
+        loLater = λ k. rw (same k, position-alike) at (h .loLater k);
+      }
+
+-- ---------------------------------------------------------------------------
+-- The arrays by node number
+
+-- where a node leads to at position x by the children in cs
+abbrev pub leads : (ps cs : List ℕ) → (x n : ℕ) → ℕ
+leads ps cs x n = cond (eqb (getD ps n 0) x) (getD cs n 0) n
+
+module _ (ps hs ls : List ℕ) (ends : getD ps 1 0 ≡ endOf ps) where
+  pub position-held : (n : ℕ) → n < 256 → positionOf (endOf ps) (recordsOf ps hs ls) n ≡ getD ps n 0
+  unfolding positionOf endOf
+  position-held zero l = refl
+  position-held (suc zero) l = sym ends
+  position-held (suc (suc k)) l =
+      ap (λ (r : Record). r .position) (held-at ps hs ls k (omega arith)) ∙ ap (λ (i : ℕ). getD ps i 0) (omega arith)
+
+  -- what a node leads to at x by an arc whose children are in cs: an end stands after every variable, so not at x
+  arc-held : (b : Bool) (cs : List ℕ) → ((k : ℕ) → k < 254 → cond b (recordAt (recordsOf ps hs ls) k .hi) (recordAt (recordsOf ps hs ls) k .lo) ≡ getD cs (k + 2) 0) → (x n : ℕ) → x < endOf ps → n < 256 → follow (endOf ps) (recordsOf ps hs ls) x b n ≡ leads ps cs x n
+  unfolding follow hiOf loOf endOf
+  arc-held b cs h x zero l m = rw (position-held 0 m, ne-eqb (getD ps 0 0) x (λ e. omega arith))
+  arc-held b cs h x (suc zero) l m = rw (position-held 1 m, ne-eqb (getD ps 1 0) x (λ e. omega arith))
+  arc-held b cs h x (suc (suc k)) l m =
+      let at : k + 2 ≡ suc (suc k) = omega arith in
+      rw (position-held (suc (suc k)) m, h k (omega arith), at)
+
+  pub follow-held : (b : Bool) (x n : ℕ) → x < endOf ps → n < 256 → follow (endOf ps) (recordsOf ps hs ls) x b n ≡ leads ps (cond b hs ls) x n
+  follow-held true = arc-held true hs (λ k l. ap (λ (r : Record). r .hi) (held-at ps hs ls k l))
+  follow-held false = arc-held false ls (λ k l. ap (λ (r : Record). r .lo) (held-at ps hs ls k l))
+
+-- ---------------------------------------------------------------------------
+-- The memo
+
+cell-true : (r : Bool) → cellOf r ≡ 1 → r ≡ true
+unfolding cellOf
+cell-true true e = refl
+cell-true false e = absurd (omega arith)
+
+cell-false : (r : Bool) → cellOf r ≡ 2 → r ≡ false
+unfolding cellOf
+cell-false true e = absurd (omega arith)
+cell-false false e = refl
+
+zeros-at : (n i : ℕ) → _≡_ {A = ℕ} (getD (replicate n 0) i 0) 0
+zeros-at zero i = refl
+zeros-at (suc n) zero = refl
+zeros-at (suc n) (suc i) = zeros-at n i
+
+-- a cell where one is set: that one, or one that is as it was
+set-cell : (l : List ℕ) (i j x : ℕ) → ((j ≡ i) × (getD (set l i x) j 0 ≡ x)) ⊎ (getD (set l i x) j 0 ≡ getD l j 0)
+set-cell [] i j x = inr refl
+set-cell (y ∷ l) zero zero x = inl (refl, refl)
+set-cell (y ∷ l) zero (suc j) x = inr refl
+set-cell (y ∷ l) (suc i) zero x = inr refl
+set-cell (y ∷ l) (suc i) (suc j) x = ⊎-map (λ h. (ap suc (h .0), h .1)) (λ h. h) (set-cell l i j x)
+
+module _ (v : ℕ) (rs : List Record) where
+  -- the memo of zeros says nothing
+  pub right-zeros : (n : ℕ) → Right v rs (replicate n 0)
+  right-zeros n =
+      record {
+        implied = λ a b _ _ e. absurd (omega (arith, zeros-at n (a * 256 + b)));
+        refuted = λ a b _ _ e. absurd (omega (arith, zeros-at n (a * 256 + b)));
+      }
+
+  -- a memo that is right stays so where the cell of a decided pair is set
+  pub right-set : (memo : List ℕ) (m n : ℕ) (r : Bool) → m < 256 → n < 256 → Right v rs memo → r ≡ implies v rs m n → Right v rs (set memo (m * 256 + n) (cellOf r))
+  right-set memo m n r m-small n-small right decided =
+      record {
+        implied = λ a b la lb e. ⊎-elim (λ h. same a b la lb (h .0) ∙ cell-true r (sym (h .1) ∙ e)) (λ h. right .implied a b la lb (sym h ∙ e)) (set-cell memo (m * 256 + n) (a * 256 + b) (cellOf r));
+        refuted = λ a b la lb e. ⊎-elim (λ h. same a b la lb (h .0) ∙ cell-false r (sym (h .1) ∙ e)) (λ h. right .refuted a b la lb (sym h ∙ e)) (set-cell memo (m * 256 + n) (a * 256 + b) (cellOf r));
+      }
+    where
+      same : (a b : ℕ) → a < 256 → b < 256 → a * 256 + b ≡ m * 256 + n → implies v rs a b ≡ r
+      same a b la lb e =
+          let p : a ≡ m = omega arith in
+          let q : b ≡ n = omega arith in
+          rw (p, q) (sym decided)
+
+-- ---------------------------------------------------------------------------
+-- A pair by its children
+
+-- a node at the ends' position is an end
+only-ends : {v : ℕ} {rs : List Record} → Formed v rs → (n : ℕ) → v ≤ positionOf v rs n → n < 2
+unfolding positionOf
+only-ends h zero l = omega arith
+only-ends h (suc zero) l = omega arith
+only-ends h (suc (suc k)) l = absurd (omega (arith, position-less h k))
+
+-- of two nodes that are not both ends, with x the smaller position
+module _ {v : ℕ} {rs : List Record} (h : Formed v rs) (m n x : ℕ) (met : m < 2 → n < 2 → ⊥) (first : x ≡ min (positionOf v rs m) (positionOf v rs n)) where
+  first-less : x < v
+  first-less = ⊎-elim (λ e. absurd (met (only-ends h m (omega arith)) (only-ends h n (omega arith)))) (λ l. l) (eq-or-lt-of-le {n = x} {m = v} (omega (arith, position-le h m)))
+
+  -- neither number rises, and one falls
+  pair-less : (b : Bool) → follow v rs x b m + follow v rs x b n < m + n
+  pair-less b =
+      let l = first-less in
+      let m-le = follow-le h x b m l in
+      let n-le = follow-le h x b n l in
+      ⊎-elim
+      (λ e. omega (arith, rw (← e) at (follow-less h b m (omega arith))))
+      (λ g. let e : positionOf v rs n ≡ x = omega arith in omega (arith, rw e at (follow-less h b n (omega arith))))
+      (eq-or-lt-of-le {n = x} {m = positionOf v rs m} (omega arith))
+
+  pair-split : implies v rs m n ≡ (implies v rs (follow v rs x true m) (follow v rs x true n) && implies v rs (follow v rs x false m) (follow v rs x false n))
+  pair-split = implies-split h x m n first-less (omega arith) (omega arith)
+
+-- two nodes that are not both ends, with x the smaller of their positions as the arrays have them
+pub record Meets (ps hs ls : List ℕ) (m n x : ℕ) : Type 0 where
+  pub formed : Formed (endOf ps) (recordsOf ps hs ls)
+  pub ends : getD ps 1 0 ≡ endOf ps
+  pub m-small : m < 256
+  pub n-small : n < 256
+  pub met : m < 2 → n < 2 → ⊥
+  pub first : x ≡ min (getD ps m 0) (getD ps n 0)
+
+module _ {ps hs ls : List ℕ} {m n x : ℕ} (h : Meets ps hs ls m n x) where
+  first-held : x ≡ min (positionOf (endOf ps) (recordsOf ps hs ls) m) (positionOf (endOf ps) (recordsOf ps hs ls) n)
+  first-held = rw (position-held ps hs ls (h .ends) m (h .m-small), position-held ps hs ls (h .ends) n (h .n-small)) (h .first)
+
+  before-ends : x < endOf ps
+  before-ends = first-less (h .formed) m n x (h .met) first-held
+
+  m-leads : (b : Bool) → follow (endOf ps) (recordsOf ps hs ls) x b m ≡ leads ps (cond b hs ls) x m
+  m-leads b = follow-held ps hs ls (h .ends) b x m before-ends (h .m-small)
+
+  n-leads : (b : Bool) → follow (endOf ps) (recordsOf ps hs ls) x b n ≡ leads ps (cond b hs ls) x n
+  n-leads b = follow-held ps hs ls (h .ends) b x n before-ends (h .n-small)
+
+  -- the pair that m and n lead to has a smaller sum
+  pub leads-less : (b : Bool) → leads ps (cond b hs ls) x m + leads ps (cond b hs ls) x n < m + n
+  leads-less b = rw (← m-leads b, ← n-leads b) (pair-less (h .formed) m n x (h .met) first-held b)
+
+  -- m implies n where both pairs that they lead to do
+  leads-split : implies (endOf ps) (recordsOf ps hs ls) m n ≡ (implies (endOf ps) (recordsOf ps hs ls) (leads ps hs x m) (leads ps hs x n) && implies (endOf ps) (recordsOf ps hs ls) (leads ps ls x m) (leads ps ls x n))
+  leads-split = rw (← m-leads true, ← n-leads true, ← m-leads false, ← n-leads false) (pair-split (h .formed) m n x (h .met) first-held)
+
+  pub leads-refuted : {a b : ℕ} {r : Bool} → a ≡ leads ps hs x m → b ≡ leads ps hs x n → r ≡ implies (endOf ps) (recordsOf ps hs ls) a b → not r ≡ true → false ≡ implies (endOf ps) (recordsOf ps hs ls) m n
+  leads-refuted {r} p q e f = rw (leads-split, ← p, ← q, ← e, not-true r f)
+
+  pub leads-implied : {a b c d : ℕ} {r u : Bool} → a ≡ leads ps hs x m → b ≡ leads ps hs x n → r ≡ implies (endOf ps) (recordsOf ps hs ls) a b → not r ≡ false → c ≡ leads ps ls x m → d ≡ leads ps ls x n → u ≡ implies (endOf ps) (recordsOf ps hs ls) c d → u ≡ implies (endOf ps) (recordsOf ps hs ls) m n
+  leads-implied {r} p q e f p′ q′ e′ = rw (leads-split, ← p, ← q, ← e, not-false r f, ← p′, ← q′) e′
+
+  -- the memo with the cell of m and n set, once they are decided
+  pub decided : {memo memo′ : List ℕ} {r a : Bool} → Right (endOf ps) (recordsOf ps hs ls) memo → r ≡ implies (endOf ps) (recordsOf ps hs ls) m n → a ≡ r → memo′ ≡ set memo (m * 256 + n) (cellOf r) → Decided ps hs ls memo′ m n a
+  decided {memo} {r} right e p q =
+      record { answer = p ∙ e; right = rw q (right-set (endOf ps) (recordsOf ps hs ls) memo m n r (h .m-small) (h .n-small) right e) }
+
+-- ---------------------------------------------------------------------------
+-- What is known of a pair at once
+
+module _ (v : ℕ) (rs : List Record) (m n : ℕ) where
+  pub known-implied : implies v rs m n ≡ true → Known v rs m n 1
+  known-implied h = record { implied = λ _. h; refuted = λ e. absurd (omega arith); unknown = λ f _. absurd (f refl) }
+
+  pub known-refuted : implies v rs m n ≡ false → Known v rs m n 2
+  known-refuted h = record { implied = λ e. absurd (omega arith); refuted = λ _. h; unknown = λ _ f. absurd (f refl) }
+
+  -- what the memo says of a pair that none of the tests before settles
+  pub known-cell : (memo : List ℕ) → Right v rs memo → m < 256 → n < 256 → (m ≡ 0 → ⊥) → (n ≡ 1 → ⊥) → (m ≡ n → ⊥) → (m + n ≡ 1 → ⊥) → Known v rs m n (getD memo (m * 256 + n) 0)
+  known-cell memo h m-small n-small m-not n-not unlike sum-not =
+      record {
+        implied = h .implied m n m-small n-small;
+        refuted = h .refuted m n m-small n-small;
+        unknown = λ _ _ i j. omega arith;
+      }
+
+  -- of two nodes of which nothing is known at once, one is a record
+  pub unknown-meets : {r : ℕ} → Known v rs m n r → (r ≡ 1 → ⊥) → (r ≡ 2 → ⊥) → m < 2 → n < 2 → ⊥
+  unknown-meets h a b i j = h .unknown a b i j
+
+-- ---------------------------------------------------------------------------
+-- The arrays of a file
+
+-- the cell of record k
+column-at : (end : ℕ) (part : Record → ℕ) (rs : List Record) (k : ℕ) → k < 254 → getD (column end part rs) (k + 2) 0 ≡ part (recordAt rs k)
+unfolding column
+column-at end part rs k l =
+    let at : k + 2 ≡ suc (suc k) = omega arith in
+    rw at (sequence-at (λ i. part (recordAt rs i)) 0 254 k 0 l ∙ rw zero-add)
+
+variable-at : (s : List ℕ) (p : ℕ) → p < variableCount s → getD (tableOf s .variables) p (chance 0 1) ≡ variableOf (wordAt s (1 + p))
+unfolding tableOf
+variable-at s p l = sequence-at (λ i. variableOf (wordAt s i)) 1 (variableCount s) p _ l
+
+module _ {s ps hs ls memo : List ℕ} (h : Held s ps hs ls memo) where
+  held-end : endOf ps ≡ variableCount s
+  unfolding endOf column
+  held-end = rw (h .positions)
+
+  held-ends : getD ps 1 0 ≡ endOf ps
+  unfolding endOf column
+  held-ends = rw (h .positions)
+
+  held-records : (k : ℕ) → recordAt (recordsOf ps hs ls) k ≡ recordAt (tableOf s .records) k
+  held-records k =
+      by-cases (decLt k 254)
+      (λ l. held-at ps hs ls k l ∙ rw (h .positions, h .high, h .low, column-at _ _ _ k l, column-at _ _ _ k l, column-at _ _ _ k l))
+      (λ l. held-past ps hs ls k (omega arith) ∙ sym (record-past s k (omega (arith, heading-records s (h .shaped .heading)))))
+
+  pub held-pairs : Pairs ps hs ls memo
+  held-pairs =
+      record {
+        formed = rw held-end (formed-alike _ _ (λ k. sym (held-records k)) (shaped-formed s (h .shaped)));
+        ends = held-ends;
+        right = h .right;
+      }
+
+  held-implies : (m n : ℕ) → implies (endOf ps) (recordsOf ps hs ls) m n ≡ implies (length (tableOf s .variables)) (tableOf s .records) m n
+  held-implies m n = rw (held-end, variables-length) (implies-alike _ _ held-records (variableCount s) m n)
+
+  -- the cells of record k
+  held-cells : (k : ℕ) → k < recordCount s → recordAt (tableOf s .records) k ≡ record { position = getD ps (k + 2) 0; hi = getD hs (k + 2) 0; lo = getD ls (k + 2) 0 }
+  held-cells k l = sym (held-records k) ∙ held-at ps hs ls k (omega (arith, heading-records s (h .shaped .heading)))
+
+  -- check 18's test of record k, as the arrays have it
+  pub held-test : (k : ℕ) → k < recordCount s → isMonotoneAt (tableOf s) k ≡ (not (isChoice (variableOf (wordAt s (1 + getD ps (k + 2) 0)))) || implies (endOf ps) (recordsOf ps hs ls) (getD ls (k + 2) 0) (getD hs (k + 2) 0))
+  unfolding isMonotoneAt
+  held-test k l =
+      let before = position-less (shaped-formed s (h .shaped)) k in
+      rw (held-implies, variable-at s _ before, held-cells k l)
+
+  -- the arrays with another memo that is right
+  pub held-memo : {memo′ : List ℕ} → Right (endOf ps) (recordsOf ps hs ls) memo′ → Held s ps hs ls memo′
+  held-memo r = record { shaped = h .shaped; positions = h .positions; high = h .high; low = h .low; right = r }
+
+-- ---------------------------------------------------------------------------
+-- Check 18's test of a word
+
+abbrev pub unmonotone-at : List ℕ → ℕ → Bool
+unmonotone-at s i = not (isMonotoneAt (tableOf s) (i - (1 + variableCount s)))
+
+pub unmonotone-test : (s : List ℕ) (k : ℕ) {b : Bool} → b ≡ isMonotoneAt (tableOf s) k → unmonotone-at s (1 + variableCount s + k) ≡ not b
+unmonotone-test s k e =
+    let back : 1 + variableCount s + k - (1 + variableCount s) ≡ k = omega arith in
+    rw (back, e)
