@@ -1,0 +1,3 @@
+-- Laws of a table file and of arrays by node number, for the proofs of this crate's functions.
+pub mod Shape
+pub mod Columns
