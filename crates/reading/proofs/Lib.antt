@@ -1,4 +1,5 @@
 -- Laws for the proofs of this crate's functions.
 pub mod Counting
 pub mod Shape
+pub mod Columns
 pub mod Pairing

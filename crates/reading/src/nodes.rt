@@ -8,7 +8,7 @@ use diagram::word_at;
 use crate::words::variable_count;
 ghost use mathlib.Core.Path.{_≡_};
 ghost use Prim.Native.Nat.{_+_, _<_};
-ghost use lib.ListN.{getD, set};
+ghost use lib.ListN.{length, getD, set};
 ghost use Rattle.diagram.specs.Words.{wordAt, fieldP, fieldQ, fieldR};
 ghost use Rattle.diagram.specs.Table.{Record, tableOf, variableCount};
 ghost use Rattle.reading.specs.Nodes.{column, Shaped};
@@ -16,6 +16,7 @@ ghost use Rattle.reading.specs.Nodes.{column, Shaped};
 // Copies the records of a file that the checks 11 to 17 let through, and marks the ends' position.
 pub fn decode(file: &[u8], positions: &mut [u8; 256], high: &mut [u8; 256], low: &mut [u8; 256])
     requires { ⌜ Shaped (now file) ⌝ }
+    requires sizes { ⌜ (length (now positions) ≡ 256) × (length (now high) ≡ 256) × (length (now low) ≡ 256) ⌝ }
     ensures positions { λ _. ⌜ now (positions .exit) ≡ column (variableCount (now (file .entry))) (λ (r : Record). r .position) (tableOf (now (file .entry)) .records) ⌝ }
     ensures high { λ _. ⌜ now (high .exit) ≡ column 0 (λ (r : Record). r .hi) (tableOf (now (file .entry)) .records) ⌝ }
     ensures low { λ _. ⌜ now (low .exit) ≡ column 0 (λ (r : Record). r .lo) (tableOf (now (file .entry)) .records) ⌝ }

@@ -1,49 +1,48 @@
+-- `position` meets its contract: for an end it is the one given, and else the record's word has it. Assumes nothing.
+use Prim.Native.Nat.{_+_, _-_, _<_}
+use native.Mathlib.Omega.{arith}
+use mathlib.Core.Path.{_≡_, sym, _∙_}
+use denote.Ref.{now}
 use borrow.Author.Needs.{needs}
+use Rattle.diagram.specs.Table.{recordCount}
+use Rattle.reading.proofs.Shape.{end-position, record-position}
 use Rattle.reading.proofs.records.position.Statement.{statement}
 use Rattle.reading.proofs.records.position.Tie as tie
-use Rattle.reading.proofs.records.position.Reads as reads
-use Rattle.reading.proofs.records.position.Lts as lts
-use Rattle.diagram.proofs.numbering.Node.number.Reads as number-reads
-use Rattle.diagram.proofs.numbering.Position.new.Reads as new-reads
-use Rattle.diagram.proofs.numbering.Position.word.Reads as word-reads
-use Rattle.diagram.proofs.field_p.Reads as field-p-reads
-use Rattle.diagram.proofs.word_at.Reads as word-at-reads
 
--- src/records.rt:73:9
 number-requires : tie.Need-number-requires
 number-requires c κs = search needs
 
--- src/records.rt:75:9
 returns : tie.Need-returns
-returns c = ?
+returns c =
+    let a = c .before .before .before in
+    let n : a .args .node .0 < 2 = omega arith in
+    a .pre .0 ∙ sym (end-position _ _ (a .args .node .0) n)
 
--- src/records.rt:77:41
 word-requires : tie.Need-word-requires
 word-requires c κs = search needs
 
--- src/records.rt:77:41
 add-word-at : tie.Need-add-word-at
 add-word-at c = search needs
 
--- src/records.rt:77:27
 word-at-requires : tie.Need-word-at-requires
 word-at-requires c κs = search needs
 
--- src/records.rt:77:19
 field-p-requires : tie.Need-field-p-requires
 field-p-requires c κs = search needs
 
--- src/records.rt:77:19
 cast-new : tie.Need-cast-new
 cast-new c = search needs
 
--- src/records.rt:77:5
 new-requires : tie.Need-new-requires
 new-requires c κs = search needs
 
--- src/records.rt:69:1
 returns-2 : tie.Need-returns-2
-returns-2 c = ?
+returns-2 c =
+    let a = c .before .before .before .before .before .before .before in
+    let n = a .args .node .0 in
+    let k : n - 2 < recordCount (now (a .args .file)) = omega arith in
+    let e : n - 2 + 2 ≡ n = omega arith in
+    cc (rw e at (record-position (now (a .args .file)) (n - 2) k))
 
 pub position-spec : {M : Type 1} → statement M
 position-spec =

@@ -1,66 +1,90 @@
+-- `record_fault` meets its contract. The loop's invariant: the first fault of all records is the first of those from k on.
+-- Assumes nothing.
+use Prim.Native.Nat.{_+_, _-_, _≤_}
+use native.Mathlib.Omega.{arith}
+use mathlib.Core.Path.{_≡_, refl, ap, sym, _∙_}
+use mathlib.Core.Bool.{not}
+use borrow.Author.Needs.{needs}
+use Rattle.diagram.specs.Table.{variableCount, recordCount}
+use Rattle.diagram.specs.Checks.{recordFault, firstPlace}
+use Rattle.diagram.proofs.Places.{place-start, place-here, place-next, place-end}
+use Rattle.reading.specs.Answer.{faultOf}
+use Rattle.reading.specs.declared.answer.Fault.the-variants.{At}
+use Rattle.reading.proofs.Shape.{heading-records, record-at-fault, record-test}
 use Rattle.reading.proofs.records.record_fault.Statement.{statement}
 use Rattle.reading.proofs.records.record_fault.Tie as tie
-use Rattle.reading.proofs.records.record_fault.Reads as reads
-use Rattle.reading.proofs.records.record_fault.Lts as lts
-use Rattle.diagram.proofs.numbering.Position.new.Reads as new-reads
-use Rattle.diagram.proofs.numbering.Position.word.Reads as word-reads
-use Rattle.reading.proofs.records.is_record_word.Reads as is-record-word-reads
-use Rattle.reading.proofs.words.record_count.Reads as record-count-reads
-use Rattle.reading.proofs.words.variable_count.Reads as variable-count-reads
 
 abbrev Inv-loop : tie.InvT-loop
-Inv-loop file end n k₀ k = ?
+Inv-loop file end n k₀ k =
+    (end .0 ≡ variableCount file)
+    × (n ≡ recordCount file)
+    × (k ≤ n)
+    × (recordFault file ≡ firstPlace (record-at-fault file) (1 + variableCount file + k) (recordCount file - k))
 
 abbrev μ-loop : tie.MeasureT-loop
-μ-loop file end n k₀ k = ?
+μ-loop file end n k₀ k = n - k
 
--- src/records.rt:25:29
 variable-count-requires : tie.Need-variable-count-requires Inv-loop μ-loop
-variable-count-requires c κs = ?
+variable-count-requires c κs = search needs
 
--- src/records.rt:25:9
 new-requires : tie.Need-new-requires Inv-loop μ-loop
-new-requires c κs = ?
+new-requires c κs = search needs
 
--- src/records.rt:26:9
 record-count-requires : tie.Need-record-count-requires Inv-loop μ-loop
-record-count-requires c κs = ?
+record-count-requires c κs = search needs
 
--- src/records.rt:28:5
 loop-holds : tie.Need-loop-holds Inv-loop μ-loop
-loop-holds c = ?
+unfolding recordFault
+loop-holds c =
+    let s = c .before .before .before .before .args .file .now in (
+      c .before .new .ensures ∙ c .before .before .variable-count .ensures .0,
+      c .record-count .ensures .0,
+      omega arith,
+      place-start (record-at-fault s) (1 + variableCount s) (recordCount s),
+    )
 
--- src/records.rt:29:13
 is-record-word-requires : tie.Need-is-record-word-requires Inv-loop μ-loop
-is-record-word-requires c κs = ?
+is-record-word-requires c κs = (c .before .loop .inv .0, omega arith, heading-records (c .before .before .before .before .before .before .args .file .now) (c .before .before .before .before .before .before .pre) .1)
 
--- src/records.rt:30:30
 word-requires : tie.Need-word-requires Inv-loop μ-loop
-word-requires c κs = ?
+word-requires c κs = search needs
 
--- src/records.rt:30:30
 add-t9 : tie.Need-add-t9 Inv-loop μ-loop
-add-t9 c = ?
+add-t9 c = search needs
 
--- src/records.rt:30:13
 returns : tie.Need-returns Inv-loop μ-loop
-returns c = ?
+unfolding faultOf
+returns c =
+    let s = c .before .before .before .before .before .before .before .before .before .args .file .now in
+    let k = c .before .before .before .before .loop .k in
+    let e : c .word .result + k ≡ 1 + variableCount s + k = omega (arith, c .word .ensures) in
+    let found = record-test s k ∙ ap not (sym (c .before .before .is-record-word .ensures)) ∙ c .before .if1 .taken in
+    rw (c .before .before .before .before .loop .inv .3, place-here (record-at-fault s) (1 + variableCount s) (recordCount s) k (omega arith) found) (ap At e)
 
--- src/records.rt:32:9
 add-k : tie.Need-add-k Inv-loop μ-loop
-add-k c = ?
+add-k c = search needs
 
--- src/records.rt:28:5
 loop-less : tie.Need-loop-less Inv-loop μ-loop
-loop-less c = ?
+loop-less c = search needs
 
--- src/records.rt:28:5
 loop-again : tie.Need-loop-again Inv-loop μ-loop
-loop-again c = ?
+loop-again c =
+    let s = c .before .before .before .before .before .before .before .before .args .file .now in
+    let k = c .before .before .before .loop .k in
+    let inv = c .before .before .before .loop .inv in
+    let passed = record-test s k ∙ ap not (sym (c .before .is-record-word .ensures)) ∙ c .if1 .left in (
+      inv .0,
+      inv .1,
+      omega arith,
+      inv .3 ∙ place-next (record-at-fault s) (1 + variableCount s) (recordCount s) k (omega arith) passed,
+    )
 
--- src/records.rt:21:1
 returns-2 : tie.Need-returns-2 Inv-loop μ-loop
-returns-2 c = ?
+unfolding faultOf
+returns-2 c =
+    let s = c .before .before .before .before .before .before .args .file .now in
+    let k = c .before .loop .k in
+    rw (c .before .loop .inv .3, place-end (record-at-fault s) (1 + variableCount s + k) (recordCount s) k (omega arith)) refl
 
 pub record-fault-spec : {M : Type 1} → statement M
 record-fault-spec =
