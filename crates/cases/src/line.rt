@@ -11,7 +11,9 @@ pub struct Line {
 
 impl Line {
     pub const LABEL: u8 = 0;
+
     pub const SERVICE: u8 = 1;
+
     pub const FILE: u8 = 2;
 
     pub fn new() -> Line {

@@ -3,3 +3,4 @@ pub mod Counting
 pub mod Shape
 pub mod Columns
 pub mod Pairing
+pub mod Outcomes

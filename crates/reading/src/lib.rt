@@ -6,14 +6,14 @@ mod records;
 mod variables;
 mod words;
 
+use answer::Bounded;
+use answer::Fault;
 pub use answer::ReadAnswer;
 pub use answer::Summary;
+use diagram::Refusal;
 pub use nodes::child_of;
 pub use nodes::decode;
 pub use nodes::position_of;
-use answer::Bounded;
-use answer::Fault;
-use diagram::Refusal;
 ghost use mathlib.Core.Path.{_≡_};
 ghost use Rattle.diagram.specs.Services.{readOutcome};
 ghost use Rattle.reading.specs.Answer.{outcomeOf};

@@ -1,11 +1,11 @@
 // The records of a table in arrays by node number, one for each part of a record.
+use crate::words::variable_count;
 use diagram::Node;
 use diagram::Position;
 use diagram::field_p;
 use diagram::field_q;
 use diagram::field_r;
 use diagram::word_at;
-use crate::words::variable_count;
 ghost use mathlib.Core.Path.{_≡_};
 ghost use Prim.Native.Nat.{_+_, _<_};
 ghost use lib.ListN.{length, getD, set};

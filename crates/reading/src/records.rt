@@ -1,5 +1,7 @@
 // Check 17: the record words.
 use crate::answer::Fault;
+use crate::words::record_count;
+use crate::words::variable_count;
 use diagram::Node;
 use diagram::Position;
 use diagram::field_p;
@@ -7,8 +9,6 @@ use diagram::field_q;
 use diagram::field_r;
 use diagram::kind;
 use diagram::word_at;
-use crate::words::record_count;
-use crate::words::variable_count;
 ghost use mathlib.Core.Path.{_≡_};
 ghost use mathlib.Core.Option.{none};
 ghost use Prim.Native.Nat.{_≤_, _<_, _+_};

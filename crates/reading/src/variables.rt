@@ -1,13 +1,13 @@
 // The checks 14 to 16: the variable words, the number of choices and the product of b.
 use crate::answer::Bounded;
 use crate::answer::Fault;
+use crate::words::variable_count;
 use diagram::Position;
 use diagram::field_p;
 use diagram::field_q;
 use diagram::field_r;
 use diagram::kind;
 use diagram::word_at;
-use crate::words::variable_count;
 ghost use mathlib.Core.Path.{_≡_};
 ghost use Prim.Native.Nat.{_≤_, _<_, _*_, _+_, _^_};
 ghost use lib.Dec.{ltb};
