@@ -1,5 +1,6 @@
 // A line of the input, as far as it has come.
 ghost use Prim.Native.Nat.{_≤_};
+ghost use lib.ListN.{length};
 
 pub struct Line {
     pub part: u8,
@@ -43,7 +44,7 @@ impl Line {
     }
 
     // A digit of the file, or a space.
-    pub fn digit(mut self, b: u8, file: &mut [u8; 1400]) -> Line {
+    pub fn digit(mut self, b: u8, file: &mut [u8]) -> Line {
         let d = value(b);
         if 15 < d {
             return self;
@@ -54,7 +55,7 @@ impl Line {
             self.half = d;
             return self;
         }
-        if at < 1400 {
+        if at < file.len() {
             file[at] = half * 16 + d;
             self.count = at + 1;
         }
@@ -63,11 +64,11 @@ impl Line {
     }
 
     // How many bytes of the file there are.
-    pub fn length(self) -> usize
-        ensures { λ r. ⌜ r ≤ 1400 ⌝ }
+    pub fn length(self, file: &[u8]) -> usize
+        ensures { λ r. ⌜ r ≤ length (now (file .entry)) ⌝ }
     {
         let n = self.count;
-        if n <= 1400 { n } else { 1400 }
+        if n < file.len() { n } else { file.len() }
     }
 }
 

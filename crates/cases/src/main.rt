@@ -23,7 +23,7 @@ fn main() {
 }
 
 // Takes some bytes of the input.
-fn feed(line: Line, bytes: &[u8], file: &mut [u8; 1400]) -> Line {
+fn feed(line: Line, bytes: &[u8], file: &mut [u8]) -> Line {
     let mut now = line;
     let mut i = 0;
     while i < bytes.len() {
@@ -34,7 +34,7 @@ fn feed(line: Line, bytes: &[u8], file: &mut [u8; 1400]) -> Line {
 }
 
 // Takes one byte of the input. The end of a line runs its case.
-fn step(line: Line, b: u8, file: &mut [u8; 1400]) -> Line {
+fn step(line: Line, b: u8, file: &mut [u8]) -> Line {
     if line.part == Line::LABEL {
         show::text(&[b]);
         return line.labelled(b);
@@ -50,8 +50,8 @@ fn step(line: Line, b: u8, file: &mut [u8; 1400]) -> Line {
 }
 
 // Runs the case of a line.
-fn run(line: Line, file: &[u8; 1400]) {
-    let n = line.length();
+fn run(line: Line, file: &[u8]) {
+    let n = line.length(file);
     if line.service == b'r' {
         show::reading(reading::read(&file[..n]));
     } else {

@@ -13,19 +13,6 @@ use Rattle.reading.proofs.Outcomes.{fault-none, fault-some, bounded-non
 use borrow.Author.Needs.{needs}
 use Rattle.reading.proofs.read.Statement.{statement}
 use Rattle.reading.proofs.read.Tie as tie
-use Rattle.reading.proofs.read.Reads as reads
-use Rattle.reading.proofs.read.Lts as lts
-use Rattle.reading.proofs.monotone.monotone_fault.Reads as monotone-fault-reads
-use Rattle.reading.proofs.records.record_fault.Reads as record-fault-reads
-use Rattle.reading.proofs.refuse.Reads as refuse-reads
-use Rattle.reading.proofs.variables.choices.Reads as choices-reads
-use Rattle.reading.proofs.variables.scale.Reads as scale-reads
-use Rattle.reading.proofs.variables.variable_fault.Reads as variable-fault-reads
-use Rattle.reading.proofs.words.count_fault.Reads as count-fault-reads
-use Rattle.reading.proofs.words.heading_fault.Reads as heading-fault-reads
-use Rattle.reading.proofs.words.length_fault.Reads as length-fault-reads
-use Rattle.reading.proofs.words.record_count.Reads as record-count-reads
-use Rattle.reading.proofs.words.variable_count.Reads as variable-count-reads
 
 -- ---------------------------------------------------------------------------
 -- The checks that the file has passed at a place, and what is left of reading there
@@ -47,7 +34,7 @@ abbrev file-12 : tie.After-enum-told2 → List ℕ
 file-12 c = file-11 (c .before .before .before)
 
 none-12 : (c : tie.After-enum-told2) → headingFault (file-12 c) ≡ none
-none-12 c = fault-none _ (c .before .before .heading-fault .ensures) (c .enum-told2 .given .1)
+none-12 c = search (fault-none, c .enum-told2 .given .1)
 
 past-12 : (c : tie.After-enum-told2) → readOutcome (file-12 c) ≡ readFrom (rest 2) (file-12 c)
 unfolding readOutcome tableChecks
@@ -57,7 +44,7 @@ abbrev file-13 : tie.After-enum-told3 → List ℕ
 file-13 c = file-12 (c .before .before .before)
 
 none-13 : (c : tie.After-enum-told3) → countFault (file-13 c) ≡ none
-none-13 c = fault-none _ (c .before .before .count-fault .ensures) (c .enum-told3 .given .1)
+none-13 c = search (fault-none, c .enum-told3 .given .1)
 
 past-13 : (c : tie.After-enum-told3) → readOutcome (file-13 c) ≡ readFrom (rest 3) (file-13 c)
 unfolding readOutcome tableChecks

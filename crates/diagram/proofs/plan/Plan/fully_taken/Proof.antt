@@ -9,9 +9,6 @@ use borrow.Author.Fill.{fill-more}
 use borrow.Author.Needs.{needs}
 use Rattle.diagram.proofs.plan.Plan.fully_taken.Statement.{statement}
 use Rattle.diagram.proofs.plan.Plan.fully_taken.Tie as tie
-use Rattle.diagram.proofs.plan.Plan.fully_taken.Reads as reads
-use Rattle.diagram.proofs.plan.Plan.fully_taken.Lts as lts
-use Rattle.diagram.proofs.plan.most.Reads as most-reads
 
 -- n times a, but for the first i
 drop-replicate : (i n a : ℕ) → drop i (replicate n a) ≡ replicate (n - i) a
@@ -25,33 +22,26 @@ Inv-loop count n marks₀ i₀ marks i = (i ≤ n) × (marks ≡ replicate i 1 +
 abbrev μ-loop : tie.MeasureT-loop
 μ-loop count n marks₀ i₀ marks i = n - i
 
--- src/plan.rt:36:13
 most-requires : tie.Need-most-requires Inv-loop μ-loop
 most-requires c κs = search needs
 
--- src/plan.rt:39:9
 loop-holds : tie.Need-loop-holds Inv-loop μ-loop
 loop-holds c = (omega arith, refl)
 
--- src/plan.rt:40:13
 array-write-marks : tie.Need-array-write-marks Inv-loop μ-loop
 array-write-marks c = omega arith
 
--- src/plan.rt:41:13
 add-i : tie.Need-add-i Inv-loop μ-loop
 add-i c = omega arith
 
--- src/plan.rt:39:9
 loop-less : tie.Need-loop-less Inv-loop μ-loop
 loop-less c = omega arith
 
--- src/plan.rt:39:9
 loop-again : tie.Need-loop-again Inv-loop μ-loop
 loop-again c =
     let few : c .before .loop .i < length {A = ℕ} (replicate 20 0) = omega arith in
     (omega arith, rw (c .before .loop .inv .1) (fill-more (c .before .loop .i) 1 (replicate 20 0) few))
 
--- src/plan.rt:32:5
 returns : tie.Need-returns Inv-loop μ-loop
 returns c =
     let done : c .before .loop .i ≡ min (c .before .before .before .args .count) 20 = omega arith in
