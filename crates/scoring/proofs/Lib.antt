@@ -1,0 +1,1 @@
+-- Laws about the values of nodes.
