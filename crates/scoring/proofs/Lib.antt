@@ -1,0 +1,2 @@
+-- Laws about the values of nodes.
+pub mod Values

@@ -1,0 +1,1 @@
+pub fn same(x: usize) -> usize { x }
