@@ -7,13 +7,16 @@ mod variables;
 mod words;
 
 use answer::Bounded;
-use answer::Fault;
+pub use answer::Fault;
 pub use answer::ReadAnswer;
 pub use answer::Summary;
 use diagram::Refusal;
 pub use nodes::child_of;
 pub use nodes::decode;
 pub use nodes::position_of;
+pub use variables::is_choice;
+pub use words::record_count;
+pub use words::variable_count;
 ghost use mathlib.Core.Path.{_≡_};
 ghost use Rattle.diagram.specs.Services.{readOutcome};
 ghost use Rattle.reading.specs.Answer.{outcomeOf};

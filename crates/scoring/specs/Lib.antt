@@ -1,2 +1,4 @@
--- The values of nodes, and what the services of this crate answer.
+-- The values of nodes, the pass that computes them, and what the enums of this crate stand for.
 pub mod Value
+pub mod Passes
+pub mod Answer

@@ -52,3 +52,12 @@ highWeight t p k =
 unfoldable pub lowWeight : Table → (plan : List ℕ) → (k : ℕ) → ℕ
 lowWeight t p k =
     lowShare (variableAt t k) (markAt t p k) * gap t (recordAt (t .records) k .position + 1) (place t (recordAt (t .records) k .lo))
+
+-- The same with both arcs of a choice in force: what does not depend on a plan
+unfoldable pub highArc : Table → (k : ℕ) → ℕ
+highArc t k =
+    highShare (variableAt t k) 1 * gap t (recordAt (t .records) k .position + 1) (place t (recordAt (t .records) k .hi))
+
+unfoldable pub lowArc : Table → (k : ℕ) → ℕ
+lowArc t k =
+    lowShare (variableAt t k) 2 * gap t (recordAt (t .records) k .position + 1) (place t (recordAt (t .records) k .lo))

@@ -1,1 +1,46 @@
-pub fn same(x: usize) -> usize { x }
+// The score of a full plan: the weighted count of the settlings that lead to true, by one pass up the records.
+mod answer;
+mod arcs;
+mod bound;
+mod force;
+mod pass;
+mod plans;
+
+pub use answer::ScoreAnswer;
+pub use arcs::arc_weights;
+pub use arcs::products;
+pub use bound::upper_bound;
+use diagram::Refusal;
+pub use force::in_force;
+pub use force::marks_by_position;
+pub use pass::pass_up;
+pub use plans::mark_fault;
+use reading::Fault;
+use reading::ReadAnswer;
+use reading::read;
+ghost use mathlib.Core.Path.{_≡_};
+ghost use Rattle.diagram.specs.Services.{scoreOutcome};
+ghost use Rattle.scoring.specs.Answer.{outcomeOf};
+
+// The score of a full plan, or the first reason for turning the request away.
+pub fn score(file: &[u8], plan: &[u8]) -> ScoreAnswer
+    ensures { λ r. ⌜ outcomeOf r ≡ scoreOutcome (now (file .entry)) (now (plan .entry)) ⌝ }
+{
+    let t = match read(file) {
+        ReadAnswer::Table(t) => t,
+        ReadAnswer::Refused(r) => return ScoreAnswer::Refused(r),
+    };
+    if plan.len() != t.choices {
+        return refuse(21, 0);
+    }
+    if let Fault::At(place) = plans::full_plan_fault(plan) {
+        return refuse(22, place);
+    }
+    ScoreAnswer::Score(upper_bound(file, plan))
+}
+
+fn refuse(number: u8, place: usize) -> ScoreAnswer
+    ensures { λ r. ⌜ r ≡ ScoreAnswer.Refused (record { number = number; place = place }) ⌝ }
+{
+    ScoreAnswer::Refused(Refusal { number, place })
+}

@@ -1,0 +1,97 @@
+-- What the arrays of a pass hold. Arrays by node number have the two ends first, arrays by position one entry for each position up to 63.
+use Prim.Native.Nat.{ℕ, zero, suc, _+_, _*_, _≤_, _<_, _^_}
+use mathlib.Core.Path.{_≡_}
+use mathlib.Core.Bool.{Bool, true, false, cond, _||_}
+use mathlib.Core.List.{List, [], _∷_, _++_}
+use lib.ListN.{length, getD, drop}
+use lib.Dec.{eqb}
+use Rattle.diagram.specs.Table.{Table, Record, chance, sequence, tableOf, variableCount, isChoice, scaleOf}
+use Rattle.diagram.proofs.Truth.{Formed}
+use Rattle.diagram.proofs.FirstVariable.{Shares}
+use Rattle.reading.specs.Nodes.{column}
+use Rattle.scoring.specs.Value.{marksFrom, highArc, lowArc}
+
+-- A list written over the front of another
+unfoldable pub over : List ℕ → List ℕ → List ℕ
+over new old = new ++ drop (length new) old
+
+-- A number for each record, at its node, with zeros for the ends
+unfoldable pub byNode : (ℕ → ℕ) → (records : ℕ) → List ℕ
+byNode f n = 0 ∷ 0 ∷ sequence f 0 n
+
+-- ---------------------------------------------------------------------------
+-- What is computed once for a table
+
+-- The product of b from each position on
+unfoldable pub products : Table → List ℕ
+products t = sequence (λ x. scaleOf (drop x (t .variables))) 0 64
+
+-- The arrays that `reading::decode` fills hold the file's records
+pub record Decoded (s ps hs ls : List ℕ) : Type 0 where
+  pub positions : ps ≡ column (variableCount s) (λ (r : Record). r .position) (tableOf s .records)
+  pub high : hs ≡ column 0 (λ (r : Record). r .hi) (tableOf s .records)
+  pub low : ls ≡ column 0 (λ (r : Record). r .lo) (tableOf s .records)
+
+-- ---------------------------------------------------------------------------
+-- What is computed once for a plan
+
+-- The mark in force at each position: a choice's own, and 3 for a chance, both of whose arcs are in force
+unfoldable pub markOf : Table → (plan : List ℕ) → (x : ℕ) → ℕ
+markOf t p x = cond (isChoice (getD (t .variables) x (chance 0 1))) (getD (marksFrom t x p) 0 0) 3
+
+unfoldable pub marksByPosition : Table → (plan : List ℕ) → List ℕ
+marksByPosition t p = sequence (markOf t p) 0 64
+
+-- An arc is in force unless the mark takes the other one. An open line counts as taken.
+unfoldable pub highInForce : (mark arc : ℕ) → ℕ
+highInForce m w = cond (eqb m 2) 0 w
+
+unfoldable pub lowInForce : (mark arc : ℕ) → ℕ
+lowInForce m w = cond (eqb m 2 || eqb m 3) w 0
+
+-- The mark of record k, from the arrays
+unfoldable pub markAtNode : (positions marks : List ℕ) → (k : ℕ) → ℕ
+markAtNode ps ms k = getD ms (getD ps (k + 2) 0) 0
+
+-- ---------------------------------------------------------------------------
+-- The pass up
+
+-- The children of each node, and the weights of the arcs in force
+pub record Arcs : Type 0 where
+  pub high : List ℕ
+  pub low : List ℕ
+  pub highWeights : List ℕ
+  pub lowWeights : List ℕ
+
+-- The value of node n from those of the nodes before it
+unfoldable pub nodeValue : Arcs → (n : ℕ) → (values : List ℕ) → ℕ
+nodeValue a n vs =
+    getD (a .highWeights) n 0 * getD vs (getD (a .high) n 0) 0 + getD (a .lowWeights) n 0 * getD vs (getD (a .low) n 0) 0
+
+-- The values of the ends and of the first n records' nodes
+unfoldable pub passUp : Arcs → (records : ℕ) → List ℕ
+passUp a zero = 0 ∷ 1 ∷ []
+passUp a (suc k) = passUp a k ++ nodeValue a (k + 2) (passUp a k) ∷ []
+
+-- Every value and its two terms stay within 2^56
+pub record Fits (a : Arcs) (n : ℕ) : Type 0 where
+  pub fits : (k : ℕ) → k < n → nodeValue a (k + 2) (passUp a k) ≤ 2 ^ 56
+  pub highLess : (k : ℕ) → k < n → getD (a .high) (k + 2) 0 < k + 2
+  pub lowLess : (k : ℕ) → k < n → getD (a .low) (k + 2) 0 < k + 2
+
+-- ---------------------------------------------------------------------------
+-- A table and a plan in arrays
+
+-- The arrays hold table t's records and arcs and the marks of plan p: what the values of t's nodes under p are computed from
+pub record Marked (t : Table) (p : List ℕ) (n : ℕ) (ps hs ls ha la ms : List ℕ) : Type 0 where
+  pub formed : Formed (length (t .variables)) (t .records)
+  pub shares : Shares (t .variables)
+  pub bounded : scaleOf (t .variables) ≤ 2 ^ 56
+  pub few : length (t .variables) < 64
+  pub size : (n ≡ length (t .records)) × (n ≤ 254)
+  pub positions : ps ≡ column (length (t .variables)) (λ (r : Record). r .position) (t .records)
+  pub high : hs ≡ column 0 (λ (r : Record). r .hi) (t .records)
+  pub low : ls ≡ column 0 (λ (r : Record). r .lo) (t .records)
+  pub highArcs : (k : ℕ) → k < n → getD ha (k + 2) 0 ≡ highArc t k
+  pub lowArcs : (k : ℕ) → k < n → getD la (k + 2) 0 ≡ lowArc t k
+  pub marks : ms ≡ marksByPosition t p

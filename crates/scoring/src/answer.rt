@@ -1,0 +1,8 @@
+// What the score answers.
+use diagram::Refusal;
+
+// The score, or why the request is turned away.
+pub enum ScoreAnswer {
+    Score(u64),
+    Refused(Refusal),
+}

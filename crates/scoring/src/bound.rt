@@ -1,0 +1,104 @@
+// The score of a plan with all open lines taken.
+use crate::arcs::arc_weights;
+use crate::arcs::products;
+use crate::force::in_force;
+use crate::force::marks_by_position;
+use crate::pass::pass_up;
+use diagram::Node;
+use diagram::Position;
+use reading::decode;
+use reading::position_of;
+use reading::record_count;
+ghost use mathlib.Core.Path.{_≡_};
+ghost use mathlib.Core.List.{List};
+ghost use Prim.Native.Nat.{ℕ, _+_, _/_, _<_};
+ghost use lib.ListN.{length, getD};
+ghost use Rattle.diagram.specs.Table.{Table, sequence, tableOf, choiceCount};
+ghost use Rattle.diagram.specs.Plans.{openTaken, upperBound};
+ghost use Rattle.diagram.proofs.Checked.{Passed};
+ghost use Rattle.scoring.specs.Value.{value};
+ghost use Rattle.scoring.specs.Passes.{over, Marked};
+
+// The score with all open lines taken, of a file that has passed every check and a plan that check 21 lets through.
+pub fn upper_bound(file: &[u8], plan: &[u8]) -> u64
+    requires { ⌜ Passed (now file) × (length (now plan) ≡ choiceCount (tableOf (now file) .variables)) ⌝ }
+    ensures { λ r. ⌜ r ≡ upperBound (tableOf (now (file .entry))) (now (plan .entry)) ⌝ }
+{
+    let n = record_count(file);
+    let mut positions = [0u8; 256];
+    let mut high = [0u8; 256];
+    let mut low = [0u8; 256];
+    let mut high_arcs = [0u64; 256];
+    let mut low_arcs = [0u64; 256];
+    let mut values = [0u64; 256];
+    decode(file, &mut positions, &mut high, &mut low);
+    let products = products(file);
+    arc_weights(
+        file,
+        n,
+        &products,
+        &positions,
+        &high,
+        &low,
+        &mut high_arcs,
+        &mut low_arcs,
+    );
+    let marks = marks_by_position(file, plan);
+    values_of(
+        n,
+        &positions,
+        &high,
+        &low,
+        &high_arcs,
+        &low_arcs,
+        &marks,
+        &mut values,
+    );
+    let root = Node::of_record(n - 1);
+    root_weight(&products, position_of(&positions, root)) * value_of(&values, root)
+}
+
+// The values of all nodes under the marks in force.
+pub fn values_of(
+    n: usize,
+    positions: &[u8; 256],
+    high: &[u8; 256],
+    low: &[u8; 256],
+    high_arcs: &[u64; 256],
+    low_arcs: &[u64; 256],
+    marks: &[u8; 64],
+    values: &mut [u64; 256],
+)
+    requires arcs { ⌜ ((t : Table) × (p : List ℕ) × Marked t p n (now positions) (now high) (now low) (now «high_arcs») (now «low_arcs») (now marks)) ⌝ }
+    requires sizes { ⌜ length (now values) ≡ 256 ⌝ }
+    ensures { λ _. ⌜ ((t : Table) (p : List ℕ) → Marked t p n (now (positions .entry)) (now (high .entry)) (now (low .entry)) (now («high_arcs» .entry)) (now («low_arcs» .entry)) (now (marks .entry)) → now (values .exit) ≡ over (sequence (value t (openTaken p)) 0 (n + 2)) (now (values .entry))) ⌝ }
+{
+    let mut high_weights = [0u64; 256];
+    let mut low_weights = [0u64; 256];
+    in_force(
+        n,
+        positions,
+        marks,
+        high_arcs,
+        low_arcs,
+        &mut high_weights,
+        &mut low_weights,
+    );
+    pass_up(n, high, low, &high_weights, &low_weights, values);
+}
+
+// The product of b before a position.
+fn root_weight(products: &[u64; 64], at: Position) -> u64
+    requires { ⌜ (at .0 < 64) × (0 < getD (now products) (at .0) 0) ⌝ }
+    ensures { λ r. ⌜ r ≡ getD (now (products .entry)) 0 0 / getD (now (products .entry)) (at .0) 0 ⌝ }
+{
+    let p = at.number();
+    products[0] / products[p]
+}
+
+fn value_of(values: &[u64; 256], node: Node) -> u64
+    ensures { λ r. ⌜ r ≡ getD (now (values .entry)) (node .0) 0 ⌝ }
+{
+    let n = node.number();
+    values[n]
+}
