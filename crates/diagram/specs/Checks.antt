@@ -24,6 +24,13 @@ pub record Check : Type 0 where
   pub fault : List ℕ → Option ℕ
 
 -- ---------------------------------------------------------------------------
+-- 10: the program's job word, which is the first word of its input
+
+-- 10: "job word missing, kind not 5, or Q not 0"
+unfoldable pub jobFault : List ℕ → Option ℕ
+jobFault input = placeZero (not (eqb (kind (wordAt input 0)) 5 && eqb (fieldQ (wordAt input 0)) 0))
+
+-- ---------------------------------------------------------------------------
 -- 11 to 18: the file
 
 -- 11: "table length under 4, over 1,260 or no multiple of 4"
@@ -125,6 +132,11 @@ bufferFault size s = placeZero (not (eqb size (choiceCount (tableOf s .variables
 -- ---------------------------------------------------------------------------
 -- The checks of each service: "Checks run in this table's order, each over the whole file before the next; those a service has no input for are skipped."
 
+-- Those of the program, on its whole input, before it asks the search
+unfoldable pub jobChecks : List Check
+jobChecks = record { number = 10; fault = jobFault } ∷ []
+
+-- Those of every service, on the file
 unfoldable pub tableChecks : List Check
 tableChecks =
     record { number = 11; fault = lengthFault }

@@ -1,14 +1,15 @@
 -- Document 01, "The program plan and its printout": what the program prints for the bytes that it reads. Text is a list of ASCII codes.
 use Prim.Native.Nat.{ℕ, zero, suc, _+_, _/_, _%_}
-use mathlib.Core.Bool.{Bool, true, false, cond, not, _&&_, _||_}
+use mathlib.Core.Bool.{true, false, cond}
 use mathlib.Core.List.{List, [], _∷_, _++_}
-use lib.ListN.{length, take, drop, replicate}
-use lib.Dec.{eqb, ltb}
-use Rattle.diagram.specs.Words.{wordAt, kind, fieldP, fieldQ, fieldR}
+use lib.ListN.{take, drop, replicate}
+use lib.Dec.{ltb}
+use Rattle.diagram.specs.Words.{wordAt, fieldP, fieldR}
 use Rattle.diagram.specs.Table.{Table, tableOf, choiceCount, scale}
 use Rattle.diagram.specs.Score.{isTaken}
 use Rattle.diagram.specs.Plans.{cost}
-use Rattle.diagram.specs.Services.{Outcome, refused, answered, Searching, searchOutcome}
+use Rattle.diagram.specs.Checks.{jobChecks}
+use Rattle.diagram.specs.Services.{Outcome, refused, answered, checked, Searching, searchOutcome}
 
 -- The decimal digits of n, the first of which is 0 only for 0 itself. `fuel` is at least their number.
 unfoldable pub digits : (fuel n : ℕ) → List ℕ
@@ -68,22 +69,19 @@ unfoldable pub searchText : Table → Outcome Searching → List ℕ
 searchText t (refused number place) = refusalText number place
 searchText t (answered found) = planText t found
 
--- 10: "job word missing, kind not 5, or Q not 0". The job word is the first of the input; kits are its P and the percentage its R.
-unfoldable pub isJob : List ℕ → Bool
-isJob input = eqb (kind (wordAt input 0)) 5 && eqb (fieldQ (wordAt input 0)) 0
-
 -- The search "from the fully open plan" of the table's choices, in a buffer of its own
 unfoldable pub jobOutcome : (file : List ℕ) → (budget percent : ℕ) → Outcome Searching
 jobOutcome file budget percent =
     let choices = choiceCount (tableOf file .variables) in
     searchOutcome file (replicate choices 0) budget percent choices
 
--- "Plan reads one job word and then a table from standard input (at most 1,265 bytes are read)": what it prints for all that could be read
+-- "Plan reads one job word and then a table": kits are the job word's P and the percentage its R; the table is all that follows
+unfoldable pub programOutcome : List ℕ → Outcome Searching
+programOutcome input =
+    checked jobChecks (λ job. jobOutcome (drop 4 job) (fieldP (wordAt job 0)) (fieldR (wordAt job 0))) input
+
+-- What the program prints for all that could be read from standard input: "at most 1,265 bytes are read"
 unfoldable pub printout : List ℕ → List ℕ
 printout input =
     let read = take 1265 input in
-    let file = drop 4 read in
-    elim (isJob read) as (λ _. List ℕ) [
-      | true ↦ searchText (tableOf file) (jobOutcome file (fieldP (wordAt read 0)) (fieldR (wordAt read 0)))
-      | false ↦ refusalText 10 0
-    ]
+    searchText (tableOf (drop 4 read)) (programOutcome read)

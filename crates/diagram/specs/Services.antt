@@ -3,6 +3,7 @@ use Prim.Native.Nat.{ℕ}
 use mathlib.Core.Bool.{cond}
 use mathlib.Core.List.{List, [], _∷_}
 use mathlib.Core.Option.{Option, none, some}
+use lib.ListN.{length}
 use Rattle.diagram.specs.Table.{Table, tableOf, variableCount, recordCount, choiceCount, scale}
 use Rattle.diagram.specs.Score.{score}
 use Rattle.diagram.specs.Plans.{completions, upperBound, derivatives, noneOf, passing, forcedPlan, forcedCount}
@@ -60,6 +61,10 @@ sweepOutcome s p size =
     (λ file. answered (record { upperBound = upperBound (tableOf file) p; derivatives = derivatives (tableOf file) p }))
     s
 
+-- What the drops buffer holds after the request
+unfoldable pub sweepBuffer : (file plan held : List ℕ) → List ℕ
+sweepBuffer s p held = written (λ a. a .derivatives) (sweepOutcome s p (length held)) held
+
 -- "The filter takes file, plan, percent and a plan buffer. It writes the plan with forced lines taken and returns how many lines it forced."
 -- 31: "no completion passes"
 pub record Filtering : Type 0 where
@@ -74,6 +79,10 @@ filtering t percent p =
 
 unfoldable pub filterOutcome : (file plan : List ℕ) → (percent size : ℕ) → Outcome Filtering
 filterOutcome s p percent size = checked (filterChecks p percent size) (λ file. filtering (tableOf file) percent p) s
+
+-- What the plan buffer holds after the request
+unfoldable pub filterBuffer : (file plan : List ℕ) → (percent : ℕ) → (held : List ℕ) → List ℕ
+filterBuffer s p percent held = written (λ a. a .plan) (filterOutcome s p percent (length held)) held
 
 -- "The search takes file, plan, kits, percent and a plan buffer, and returns score and visits." The plan it writes is the first candidate in the ranking.
 -- 32: "no candidate"
@@ -92,3 +101,7 @@ searching t budget percent p =
 unfoldable pub searchOutcome : (file plan : List ℕ) → (budget percent size : ℕ) → Outcome Searching
 searchOutcome s p budget percent size =
     checked (searchChecks p budget percent size) (λ file. searching (tableOf file) budget percent p) s
+
+-- What the plan buffer holds after the request
+unfoldable pub searchBuffer : (file plan : List ℕ) → (budget percent : ℕ) → (held : List ℕ) → List ℕ
+searchBuffer s p budget percent held = written (λ a. a .plan) (searchOutcome s p budget percent (length held)) held

@@ -9,10 +9,10 @@ use Rattle.diagram.specs.Score.{walk, truth, settlings, weight, sum, tot
 use Rattle.diagram.specs.Plans.{completions, openTaken, openCount, takenCount, cost, isOpen, leaves, upperBound, derivative, derivatives, passes, noneOf, passing, forced, forcedPlan, countOf, forcedCount}
 use Rattle.diagram.specs.Ranking.{takesFirst, ranksBefore, better, firstRanked, isCandidate, select, bestPlan}
 use Rattle.diagram.specs.Visits.{beaten, goesBack, lowestOpen, visit, visited, visitCount}
-use Rattle.diagram.specs.Checks.{placeZero, firstPlace, lengthFault, isHeading, headingFault, countFault, isVariableWord, variableFault, choiceFault, scaleFault, positionOf, isChild, isRecordWord, recordFault, isMonotoneAt, monotoneFault, planLengthFault, planMarkFault, fullPlanFault, percentFault, budgetFault, bufferFault, tableChecks, scoreChecks, sweepChecks, filterChecks, searchChecks}
+use Rattle.diagram.specs.Checks.{placeZero, firstPlace, jobFault, lengthFault, isHeading, headingFault, countFault, isVariableWord, variableFault, choiceFault, scaleFault, positionOf, isChild, isRecordWord, recordFault, isMonotoneAt, monotoneFault, planLengthFault, planMarkFault, fullPlanFault, percentFault, budgetFault, bufferFault, jobChecks, tableChecks, scoreChecks, sweepChecks, filterChecks, searchChecks}
 use Rattle.diagram.specs.Services.{Outcome, refused, answered, Reading, Sweeping, Filtering, Searching}
-use Rattle.diagram.specs.Services.{checked, written, reading, readOutcome, scoreOutcome, sweepOutcome, filtering, filterOutcome, searching, searchOutcome}
-use Rattle.diagram.specs.Printout.{digits, decimal, refusedWord, choicesWord, scaleWord, kitsWord, scoreWord, visitsWord, takeWord, leftWord, line, markLines, refusalText, planText, searchText, isJob, jobOutcome, printout}
+use Rattle.diagram.specs.Services.{checked, written, reading, readOutcome, scoreOutcome, sweepOutcome, sweepBuffer, filtering, filterOutcome, filterBuffer, searching, searchOutcome, searchBuffer}
+use Rattle.diagram.specs.Printout.{digits, decimal, refusedWord, choicesWord, scaleWord, kitsWord, scoreWord, visitsWord, takeWord, leftWord, line, markLines, refusalText, planText, searchText, jobOutcome, programOutcome, printout}
 
 -- "Table A, (line 0 and event 1) or (line 1 and event 3), events 1/2 and 6/10"
 unfoldable pub tableA : List ℕ
@@ -113,5 +113,5 @@ twelve = refl
 
 -- Each request has the answer that document 01 gives
 pub starredHold : map (λ c. map answerTo (c .requests)) starred ≡ map (λ c. c .answers) starred
-unfolding starred answerTo tableA tableB allOpen numbers wordAt sequence variableCount recordCount variableOf recordOf tableOf recordAt root isChoice choiceCount scaleOf scale walk truth settlings weight sum total scoreFrom score assignments every implies completions openTaken openCount takenCount cost isOpen leaves upperBound derivative derivatives passes noneOf passing forced forcedPlan countOf forcedCount takesFirst ranksBefore better firstRanked isCandidate select bestPlan beaten goesBack lowestOpen visit visited visitCount placeZero firstPlace lengthFault isHeading headingFault countFault isVariableWord variableFault choiceFault scaleFault positionOf isChild isRecordWord recordFault isMonotoneAt monotoneFault planLengthFault planMarkFault fullPlanFault percentFault budgetFault bufferFault tableChecks scoreChecks sweepChecks filterChecks searchChecks checked written reading readOutcome scoreOutcome sweepOutcome filtering filterOutcome searching searchOutcome digits decimal refusedWord choicesWord scaleWord kitsWord scoreWord visitsWord takeWord leftWord line markLines refusalText planText searchText isJob jobOutcome printout
+unfolding starred answerTo tableA tableB allOpen numbers wordAt sequence variableCount recordCount variableOf recordOf tableOf recordAt root isChoice choiceCount scaleOf scale walk truth settlings weight sum total scoreFrom score assignments every implies completions openTaken openCount takenCount cost isOpen leaves upperBound derivative derivatives passes noneOf passing forced forcedPlan countOf forcedCount takesFirst ranksBefore better firstRanked isCandidate select bestPlan beaten goesBack lowestOpen visit visited visitCount placeZero firstPlace jobFault lengthFault isHeading headingFault countFault isVariableWord variableFault choiceFault scaleFault positionOf isChild isRecordWord recordFault isMonotoneAt monotoneFault planLengthFault planMarkFault fullPlanFault percentFault budgetFault bufferFault jobChecks tableChecks scoreChecks sweepChecks filterChecks searchChecks checked written reading readOutcome scoreOutcome sweepOutcome sweepBuffer filtering filterOutcome filterBuffer searching searchOutcome searchBuffer digits decimal refusedWord choicesWord scaleWord kitsWord scoreWord visitsWord takeWord leftWord line markLines refusalText planText searchText jobOutcome programOutcome printout
 starredHold = refl
