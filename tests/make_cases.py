@@ -2,7 +2,7 @@
 """Writes the input of the test program `cases` and what it has to write, the latter by oracle.py. Run it in this folder."""
 import random
 
-from oracle import Refused, bytes_of, fields, read, show_read, word, words_of
+from oracle import bytes_of, fields, show_read, show_score, word
 
 A = [0x11002000, 0x20000000, 0x30400802, 0x20800000, 0x30C0300A, 0x40C00800, 0x40801000, 0x40400803, 0x40002003]
 B = [0x10801000, 0x20000000, 0x3040380A, 0x40400800, 0x40001000]
@@ -22,6 +22,14 @@ def reads(label, data):
     text = " ".join(data[i:i + 4].hex() for i in range(0, len(data), 4))
     lines.append(f"{label}: r {text}".rstrip())
     answers.append(f"{label}:{show_read(data)}")
+
+
+def scores(label, data, plan):
+    data = bytes_of(data)
+    text = " ".join(data[i:i + 4].hex() for i in range(0, len(data), 4))
+    marks = "".join("%x" % m for m in plan)
+    lines.append(f"{label}: s {text} | {marks}".rstrip())
+    answers.append(f"{label}:{show_score(data, plan)}")
 
 
 def choice(p):
@@ -186,6 +194,62 @@ for i in range(150):
     t = made(rng.randint(1, 5), rng.randint(1, 8))
     j = rng.randrange(len(t))
     reads(f"damaged {i}", put(t, j, t[j] ^ 1 << rng.randrange(32)))
+
+note("Scores of tables A and B")
+for i in (1, 2):
+    for j in (1, 2):
+        scores(f"A {i} {j}", A, [i, j])
+scores("B taken", B, [1])
+scores("B left", B, [2])
+
+note("Scores with variables that a walk skips, shared and equal nodes, certain events")
+chances = [chance(0, 2, 7), choice(1), chance(2, 1, 3), chance(3, 4, 5), choice(4), chance(5, 3, 8)]
+skip = {
+    "at the root": [record(4, 1, 0)],
+    "at an arc": [record(5, 1, 0), record(1, 2, 0)],
+    "before an end": [record(0, 1, 0), record(0, 0, 1)],
+    "everywhere": [record(5, 1, 0), record(3, 2, 0), record(1, 3, 0), record(0, 4, 2)],
+}
+for label, records in skip.items():
+    for i in (1, 2):
+        for j in (1, 2):
+            scores(f"skipped {label} {i} {j}", table(chances, records), [i, j])
+shared = [record(5, 1, 0), record(4, 1, 2), record(3, 2, 3), record(2, 2, 3), record(1, 3, 5), record(0, 6, 4)]
+equal = [record(5, 1, 0), record(5, 1, 0), record(4, 1, 2), record(2, 4, 3), record(2, 4, 2), record(1, 5, 6), record(0, 7, 7)]
+unreachable = [record(5, 1, 0), record(3, 1, 0), record(2, 0, 1), record(1, 2, 0)]
+for label, records in (("shared nodes", shared), ("equal records", equal), ("unreachable records", unreachable)):
+    for i in (1, 2):
+        for j in (1, 2):
+            scores(f"{label} {i} {j}", table(chances, records), [i, j])
+for a in (0, 3, 5):
+    scores(f"a {a} of 5", table([chance(0, a, 5), choice(1)], [record(1, 1, 0), record(0, 2, 0)]), [1])
+
+note("No chance at all, no choice at all, B of 2^56")
+for i in (1, 2):
+    scores(f"no chance {i}", table([choice(0)], [record(0, 1, 0)]), [i])
+scores("no choice", table([chance(0, 3, 10)], [record(0, 1, 0)]), [])
+scores("no choice, from false", table([chance(0, 3, 10)], [record(0, 0, 1)]), [])
+big = [choice(0)] + [chance(i, 255, 256) for i in range(1, 8)]
+for i in (1, 2):
+    scores(f"2^56, a certain line {i}", table(big, [record(0, 1, 0)]), [i])
+    scores(f"2^56, a chain {i}", table(big, [record(7, 1, 0)] + [record(7 - k, k + 1, 0) for k in range(1, 7)] + [record(0, 8, 0)]), [i])
+
+note("Refusals of the score, after those of the file")
+scores("file refused first", put(A, 8, 0), [0])
+scores("not monotone and no plan", put(B, 4, 0x40000002), [])
+scores("plan too short", A, [1])
+scores("plan empty", A, [])
+scores("plan too long", A, [1, 1, 1])
+scores("plan too long and open", A, [0, 1, 1])
+for plan in ([0, 1], [1, 0], [3, 1], [1, 3], [0, 3], [3, 0], [1, 15], [15, 0]):
+    scores(f"plan {plan[0]} {plan[1]}", A, plan)
+scores("a plan where none is wanted", table([chance(0, 3, 10)], last), [1])
+
+note("Scores of made tables")
+for i in range(120):
+    t = made(rng.randint(1, 9), rng.randint(1, 14))
+    n = sum(1 for w in t[1:1 + fields(t[0])[1]] if w >> 28 == 2)
+    scores(f"made {i}", t, [rng.choice((1, 2)) for _ in range(n)])
 
 with open("../crates/cases/stdin", "w") as out:
     out.write("\n".join(lines) + "\n")

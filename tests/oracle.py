@@ -117,6 +117,37 @@ def read(data):
     return table
 
 
+def score(table, plan):
+    """The sum, over all settlings of all chances whose walk from the root ends in true, of their products."""
+    chances = [i for i, v in enumerate(table.variables) if v]
+    assignment = [False] * len(table.variables)
+    for line, i in enumerate(table.choices):
+        assignment[i] = plan[line] == 1
+    root, total = len(table.records) + 1, 0
+    for values in product([False, True], repeat=len(chances)):
+        weight = 1
+        for i, holds in zip(chances, values):
+            a, b = table.variables[i]
+            assignment[i] = holds
+            weight *= a if holds else b - a
+        if weight and table.truth(root, assignment):
+            total += weight
+    return total
+
+
+def show_score(data, plan):
+    try:
+        t = read(data)
+        if len(plan) != len(t.choices):
+            raise Refused(21, 0)
+        for i, m in enumerate(plan):
+            if m > 2 or m == 0:
+                raise Refused(22, i)
+    except Refused as r:
+        return f" refused {r.number} {r.place}"
+    return f" score {score(t, plan)}"
+
+
 def show_read(data):
     try:
         t = read(data)

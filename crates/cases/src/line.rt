@@ -8,6 +8,8 @@ pub struct Line {
     // How many bytes the file has, and the upper half of the next one, 16 where there is none yet.
     pub count: usize,
     pub half: u8,
+    // How many marks the plan has.
+    pub marks: usize,
 }
 
 impl Line {
@@ -16,6 +18,7 @@ impl Line {
     pub const SERVICE: u8 = 1;
 
     pub const FILE: u8 = 2;
+    pub const PLAN: u8 = 3;
 
     pub fn new() -> Line {
         Line {
@@ -23,6 +26,7 @@ impl Line {
             service: 0,
             count: 0,
             half: 16,
+            marks: 0,
         }
     }
 
@@ -43,8 +47,12 @@ impl Line {
         self
     }
 
-    // A digit of the file, or a space.
+    // A digit of the file, a space, or the bar before the plan.
     pub fn digit(mut self, b: u8, file: &mut [u8]) -> Line {
+        if b == b'|' {
+            self.part = Line::PLAN;
+            return self;
+        }
         let d = value(b);
         if 15 < d {
             return self;
@@ -63,13 +71,40 @@ impl Line {
         self
     }
 
+    // A mark of the plan, or a space.
+    pub fn mark(mut self, b: u8, plan: &mut [u8]) -> Line {
+        let d = value(b);
+        let at = self.marks;
+        if 15 < d {
+            return self;
+        }
+        if at < plan.len() {
+            plan[at] = d;
+            self.marks = at + 1;
+        }
+        self
+    }
+
     // How many bytes of the file there are.
     pub fn length(self, file: &[u8]) -> usize
         ensures { λ r. ⌜ r ≤ length (now (file .entry)) ⌝ }
     {
-        let n = self.count;
-        if n < file.len() { n } else { file.len() }
+        least(self.count, file)
     }
+
+    // How many marks of the plan there are.
+    pub fn plan_length(self, plan: &[u8]) -> usize
+        ensures { λ r. ⌜ r ≤ length (now (plan .entry)) ⌝ }
+    {
+        least(self.marks, plan)
+    }
+}
+
+// A count, cut to a buffer's length.
+fn least(n: usize, buffer: &[u8]) -> usize
+    ensures { λ r. ⌜ r ≤ length (now (buffer .entry)) ⌝ }
+{
+    if n < buffer.len() { n } else { buffer.len() }
 }
 
 // The value of a hexadecimal digit, or 16.

@@ -1,7 +1,8 @@
 // Runs the services on the cases of standard input, a line each, and writes what they answer.
 //
-// A line is a label, a colon, a letter for the service (r reads), and the file's bytes in hexadecimal; spaces count for
-// nothing. The label is written back, and then the answer. A line without a colon is written back as it is.
+// A line is a label, a colon, a letter for the service (r reads, s scores), the file's bytes in hexadecimal and, after a
+// bar, the plan's marks, a digit each; spaces count for nothing. The label is written back, and then the answer. A line
+// without a colon is written back as it is.
 mod line;
 mod show;
 
@@ -9,6 +10,7 @@ use line::Line;
 
 fn main() {
     let mut file = [0u8; 1400];
+    let mut plan = [0u8; 40];
     let mut chunk = [0u8; 4096];
     let mut line = Line::new();
     let mut turns: usize = 100000;
@@ -17,43 +19,49 @@ fn main() {
         if n == 0 {
             return;
         }
-        line = feed(line, &chunk[..n], &mut file);
+        line = feed(line, &chunk[..n], &mut file, &mut plan);
         turns -= 1;
     }
 }
 
 // Takes some bytes of the input.
-fn feed(line: Line, bytes: &[u8], file: &mut [u8]) -> Line {
+fn feed(line: Line, bytes: &[u8], file: &mut [u8], plan: &mut [u8]) -> Line {
     let mut now = line;
     let mut i = 0;
     while i < bytes.len() {
-        now = step(now, bytes[i], file);
+        now = step(now, bytes[i], file, plan);
         i += 1;
     }
     now
 }
 
 // Takes one byte of the input. The end of a line runs its case.
-fn step(line: Line, b: u8, file: &mut [u8]) -> Line {
+fn step(line: Line, b: u8, file: &mut [u8], plan: &mut [u8]) -> Line {
     if line.part == Line::LABEL {
         show::text(&[b]);
         return line.labelled(b);
     }
     if b == b'\n' {
-        run(line, file);
+        run(line, file, plan);
         return Line::new();
     }
     if line.part == Line::SERVICE {
         return line.named(b);
     }
-    line.digit(b, file)
+    if line.part == Line::FILE {
+        return line.digit(b, file);
+    }
+    line.mark(b, plan)
 }
 
 // Runs the case of a line.
-fn run(line: Line, file: &[u8]) {
+fn run(line: Line, file: &[u8], plan: &[u8]) {
     let n = line.length(file);
+    let m = line.plan_length(plan);
     if line.service == b'r' {
         show::reading(reading::read(&file[..n]));
+    } else if line.service == b's' {
+        show::score(scoring::score(&file[..n], &plan[..m]));
     } else {
         show::text(b" no such service\n");
     }

@@ -1,6 +1,7 @@
 // Answers as text on standard output.
 use diagram::Refusal;
 use reading::ReadAnswer;
+use scoring::ScoreAnswer;
 
 pub fn text(bytes: &[u8]) {
     io::write_all(libc::STDOUT_FILENO, bytes);
@@ -23,6 +24,17 @@ pub fn reading(answer: ReadAnswer) {
             text(b"\n");
         }
         ReadAnswer::Refused(r) => refusal(r),
+    }
+}
+
+pub fn score(answer: ScoreAnswer) {
+    match answer {
+        ScoreAnswer::Score(x) => {
+            text(b" score");
+            number(x);
+            text(b"\n");
+        }
+        ScoreAnswer::Refused(r) => refusal(r),
     }
 }
 
