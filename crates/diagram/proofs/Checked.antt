@@ -109,3 +109,24 @@ read-passed s r e =
       records = c17 .0;
       monotone = c18 .0;
     }
+
+-- ---------------------------------------------------------------------------
+-- A service's checks after those of a table
+
+module _ {A : Type 0} (s : List ℕ) (cs : List Check) (answer : List ℕ → Outcome A) where
+  -- a file that reading refuses is refused by every service
+  pub read-refuses : (n i : ℕ) → readOutcome s ≡ refused n i → checked (tableChecks ++ cs) answer s ≡ refused n i
+  unfolding readOutcome
+  read-refuses n i e = checked-append s tableChecks cs answer ∙ checked-refused s tableChecks reading n i (checked cs answer) e
+
+  -- a file that reading answers goes on to the service's own checks
+  pub read-answers : (r : Reading) → readOutcome s ≡ answered r → checked (tableChecks ++ cs) answer s ≡ checked cs answer s
+  unfolding readOutcome
+  read-answers r e = checked-append s tableChecks cs answer ∙ checked-answered s tableChecks reading r (checked cs answer) e
+
+-- what reading answers of an accepted file
+pub read-reading : (s : List ℕ) (r : Reading) → readOutcome s ≡ answered r → r ≡ reading s
+unfolding readOutcome
+read-reading s r e =
+    let q : answered r ≡ answered (reading s) = sym e ∙ checked-answered s tableChecks reading r (λ file. answered (reading file)) e in
+    cc
