@@ -15,7 +15,7 @@ pub record Filled (end : ℕ) (f : ℕ → ℕ) (cells : List ℕ) (k : ℕ) : T
   pub size : length cells ≡ 256
   pub front : take (k + 2) cells ≡ end ∷ end ∷ sequence f 0 k
 
-sequence-snoc : (f : ℕ → ℕ) (i n : ℕ) → sequence f i n ++ (f (i + n) ∷ []) ≡ sequence f i (suc n)
+pub sequence-snoc : (f : ℕ → ℕ) (i n : ℕ) → sequence f i n ++ (f (i + n) ∷ []) ≡ sequence f i (suc n)
 unfolding sequence
 sequence-snoc f i zero = ap (λ (x : ℕ). f x ∷ []) (omega arith)
 sequence-snoc f i (suc n) =

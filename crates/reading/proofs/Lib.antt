@@ -4,3 +4,4 @@ pub mod Shape
 pub mod Columns
 pub mod Pairing
 pub mod Outcomes
+pub mod Accepted

@@ -243,13 +243,13 @@ module _ (v : ℕ) (rs : List Record) (m n : ℕ) where
 -- The arrays of a file
 
 -- the cell of record k
-column-at : (end : ℕ) (part : Record → ℕ) (rs : List Record) (k : ℕ) → k < 254 → getD (column end part rs) (k + 2) 0 ≡ part (recordAt rs k)
+pub column-at : (end : ℕ) (part : Record → ℕ) (rs : List Record) (k : ℕ) → k < 254 → getD (column end part rs) (k + 2) 0 ≡ part (recordAt rs k)
 unfolding column
 column-at end part rs k l =
     let at : k + 2 ≡ suc (suc k) = omega arith in
     rw at (sequence-at (λ i. part (recordAt rs i)) 0 254 k 0 l ∙ rw zero-add)
 
-variable-at : (s : List ℕ) (p : ℕ) → p < variableCount s → getD (tableOf s .variables) p (chance 0 1) ≡ variableOf (wordAt s (1 + p))
+pub variable-at : (s : List ℕ) (p : ℕ) → p < variableCount s → getD (tableOf s .variables) p (chance 0 1) ≡ variableOf (wordAt s (1 + p))
 unfolding tableOf
 variable-at s p l = sequence-at (λ i. variableOf (wordAt s i)) 1 (variableCount s) p _ l
 

@@ -39,14 +39,14 @@ gap-scale t x y h l = rw (drop-drop, add-sub-of-le h) at (scale-split (y - x) (d
 -- ---------------------------------------------------------------------------
 -- Shares
 
-shares-drop : {vs : List Variable} → Shares vs → (x : ℕ) → Shares (drop x vs)
+pub shares-drop : {vs : List Variable} → Shares vs → (x : ℕ) → Shares (drop x vs)
 shares-drop h zero = h
 shares-drop no-shares (suc x) = no-shares
 shares-drop (choice-shares h) (suc x) = shares-drop h x
 shares-drop (chance-shares ab b1 h) (suc x) = shares-drop h x
 
 -- the two arcs of a variable have all of its b
-shares-sum : {v : Variable} {vs : List Variable} → Shares (v ∷ vs) → (m : ℕ) → (highShare v m + lowShare v m) * scaleOf vs ≡ scaleOf (v ∷ vs)
+pub shares-sum : {v : Variable} {vs : List Variable} → Shares (v ∷ vs) → (m : ℕ) → (highShare v m + lowShare v m) * scaleOf vs ≡ scaleOf (v ∷ vs)
 unfolding highShare lowShare scaleOf
 shares-sum (choice-shares {vs} h) m = go (isTaken m)
   where

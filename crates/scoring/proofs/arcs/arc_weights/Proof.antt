@@ -1,129 +1,155 @@
+-- `arc_weights` meets its contract. The loop's invariant: both arrays are written up to record k. The measure is the number of records left.
+-- Assumes nothing.
+use Prim.Native.Nat.{_-_, _≤_}
+use native.Mathlib.Omega.{arith}
+use mathlib.Core.Path.{_≡_, refl, _∙_}
+use borrow.Author.Needs.{needs}
+use Rattle.diagram.specs.Table.{tableOf}
+use Rattle.reading.proofs.Accepted.{passed-records}
+use Rattle.scoring.specs.Value.{highArc, lowArc}
+use Rattle.scoring.proofs.Arcing.{Written, written-start, written-next, written-all, Exact, high-exact, low-exact}
 use Rattle.scoring.proofs.arcs.arc_weights.Statement.{statement}
 use Rattle.scoring.proofs.arcs.arc_weights.Tie as tie
-use Rattle.scoring.proofs.arcs.arc_weights.Reads as reads
-use Rattle.scoring.proofs.arcs.arc_weights.Lts as lts
-use Rattle.diagram.proofs.numbering.Node.of_record.Reads as of-record-reads
-use Rattle.diagram.proofs.numbering.Position.word.Reads as word-reads
-use Rattle.diagram.proofs.word_at.Reads as word-at-reads
-use Rattle.reading.proofs.child_of.Reads as child-of-reads
-use Rattle.reading.proofs.position_of.Reads as position-of-reads
-use Rattle.scoring.proofs.arcs.arc.Reads as arc-reads
-use Rattle.scoring.proofs.arcs.high_share.Reads as high-share-reads
-use Rattle.scoring.proofs.arcs.low_share.Reads as low-share-reads
 
 abbrev Inv-loop : tie.InvT-loop
-Inv-loop file n products positions high low high-arcs₀ low-arcs₀ k₀ high-arcs low-arcs k = ?
+Inv-loop file n products positions high low high-arcs₀ low-arcs₀ k₀ high-arcs low-arcs k =
+    (k ≤ n) × (n ≤ 254) × Written (highArc (tableOf file)) high-arcs₀ high-arcs k × Written (lowArc (tableOf file)) low-arcs₀ low-arcs k
 
 abbrev μ-loop : tie.MeasureT-loop
-μ-loop file n products positions high low high-arcs₀ low-arcs₀ k₀ high-arcs low-arcs k = ?
+μ-loop file n products positions high low high-arcs₀ low-arcs₀ k₀ high-arcs low-arcs k = n - k
 
--- src/arcs.rt:58:5
+-- ---------------------------------------------------------------------------
+-- The two arcs of a turn
+
+high-read : (c : tie.After-position-of2 Inv-loop μ-loop) → let at = c .before .before .before .before .before .before .before .before in Exact (at .before .before .args .products .now) (c .before .before .before .before .before .position-of .result .0) (c .position-of2 .result .0) (c .before .before .high-share .result) (highArc (tableOf (at .before .before .args .file .now)) (at .loop .k))
+high-read c =
+    let at = c .before .before .before .before .before .before .before .before in
+    let pre = at .before .before .pre in
+    rw (
+      c .position-of2 .ensures,
+      c .before .child-of .ensures,
+      c .before .before .high-share .ensures,
+      c .before .before .before .word-at .ensures,
+      c .before .before .before .before .word .ensures,
+      c .before .before .before .before .before .position-of .ensures,
+      c .before .before .before .before .before .before .of-record .ensures,
+    )
+    (high-exact (pre .0) (pre .1 .0 .0) (pre .1 .0 .1) (at .loop .k) (omega arith))
+
+low-read : (c : tie.After-position-of3 Inv-loop μ-loop) → let at = c .before .before .before .before .before .before .before .before .before .before .before .before in Exact (at .before .before .args .products .now) (c .before .before .before .before .before .before .before .before .before .position-of .result .0) (c .position-of3 .result .0) (c .before .before .low-share .result) (lowArc (tableOf (at .before .before .args .file .now)) (at .loop .k))
+low-read c =
+    let at = c .before .before .before .before .before .before .before .before .before .before .before .before in
+    let pre = at .before .before .pre in
+    rw (
+      c .position-of3 .ensures,
+      c .before .child-of2 .ensures,
+      c .before .before .low-share .ensures,
+      c .before .before .before .before .before .before .before .word-at .ensures,
+      c .before .before .before .before .before .before .before .before .word .ensures,
+      c .before .before .before .before .before .before .before .before .before .position-of .ensures,
+      c .before .before .before .before .before .before .before .before .before .before .of-record .ensures,
+    )
+    (low-exact (pre .0) (pre .1 .0 .0) (pre .1 .0 .1) (at .loop .k) (omega (arith, c .before .before .before .before .before .before .before .before .before .before .before .loop-test .taken)))
+
+-- ---------------------------------------------------------------------------
+-- The needs
+
 element-write-high-arcs : tie.Need-element-write-high-arcs Inv-loop μ-loop
-element-write-high-arcs c = ?
+element-write-high-arcs c = search needs
 
--- src/arcs.rt:59:5
 element-write-high-arcs-2 : tie.Need-element-write-high-arcs-2 Inv-loop μ-loop
-element-write-high-arcs-2 c = ?
+element-write-high-arcs-2 c = search needs
 
--- src/arcs.rt:60:5
 element-write-low-arcs : tie.Need-element-write-low-arcs Inv-loop μ-loop
-element-write-low-arcs c = ?
+element-write-low-arcs c = search needs
 
--- src/arcs.rt:61:5
 element-write-low-arcs-2 : tie.Need-element-write-low-arcs-2 Inv-loop μ-loop
-element-write-low-arcs-2 c = ?
+element-write-low-arcs-2 c = search needs
 
--- src/arcs.rt:63:5
 loop-holds : tie.Need-loop-holds Inv-loop μ-loop
-loop-holds c = ?
+loop-holds c =
+    let start = c .before in
+    let few = passed-records (start .pre .0) in
+    let sizes = start .pre .1 .1 in
+    (omega arith, omega arith, written-start (start .args .high-arcs .now) (sizes .1) refl, written-start (start .args .low-arcs .now) (sizes .2) refl)
 
--- src/arcs.rt:64:13
 of-record-requires : tie.Need-of-record-requires Inv-loop μ-loop
-of-record-requires c κs = ?
+of-record-requires c κs = search needs
 
--- src/arcs.rt:65:13
 position-of-requires : tie.Need-position-of-requires Inv-loop μ-loop
-position-of-requires c κs = ?
+position-of-requires c κs = search needs
 
--- src/arcs.rt:66:31
 word-requires : tie.Need-word-requires Inv-loop μ-loop
-word-requires c κs = ?
+word-requires c κs = search needs
 
--- src/arcs.rt:66:13
 word-at-requires : tie.Need-word-at-requires Inv-loop μ-loop
-word-at-requires c κs = ?
+word-at-requires c κs = search needs
 
--- src/arcs.rt:67:42
 high-share-requires : tie.Need-high-share-requires Inv-loop μ-loop
-high-share-requires c κs = ?
+high-share-requires c κs = search needs
 
--- src/arcs.rt:67:84
 child-of-requires : tie.Need-child-of-requires Inv-loop μ-loop
-child-of-requires c κs = ?
+child-of-requires c κs = search needs
 
--- src/arcs.rt:67:61
 position-of-requires-2 : tie.Need-position-of-requires-2 Inv-loop μ-loop
-position-of-requires-2 c κs = ?
+position-of-requires-2 c κs = search needs
 
--- src/arcs.rt:67:28
 arc-requires : tie.Need-arc-requires Inv-loop μ-loop
-arc-requires c κs = ?
+arc-requires c κs =
+    let e = high-read c in
+    (e .from, e .to, e .positive, e .fits)
 
--- src/arcs.rt:67:19
 add-high-arcs : tie.Need-add-high-arcs Inv-loop μ-loop
-add-high-arcs c = ?
+add-high-arcs c = search needs
 
--- src/arcs.rt:67:9
 mul-high-arcs : tie.Need-mul-high-arcs Inv-loop μ-loop
-mul-high-arcs c = ?
+mul-high-arcs c = search needs
 
--- src/arcs.rt:67:9
 element-write-high-arcs-3 : tie.Need-element-write-high-arcs-3 Inv-loop μ-loop
-element-write-high-arcs-3 c = ?
+element-write-high-arcs-3 c = search needs
 
--- src/arcs.rt:68:41
 low-share-requires : tie.Need-low-share-requires Inv-loop μ-loop
-low-share-requires c κs = ?
+low-share-requires c κs = search needs
 
--- src/arcs.rt:68:82
 child-of-requires-2 : tie.Need-child-of-requires-2 Inv-loop μ-loop
-child-of-requires-2 c κs = ?
+child-of-requires-2 c κs = search needs
 
--- src/arcs.rt:68:59
 position-of-requires-3 : tie.Need-position-of-requires-3 Inv-loop μ-loop
-position-of-requires-3 c κs = ?
+position-of-requires-3 c κs = search needs
 
--- src/arcs.rt:68:27
 arc-requires-2 : tie.Need-arc-requires-2 Inv-loop μ-loop
-arc-requires-2 c κs = ?
+arc-requires-2 c κs =
+    let e = low-read c in
+    (e .from, e .to, e .positive, e .fits)
 
--- src/arcs.rt:68:18
 add-low-arcs : tie.Need-add-low-arcs Inv-loop μ-loop
-add-low-arcs c = ?
+add-low-arcs c = search needs
 
--- src/arcs.rt:68:9
 mul-low-arcs : tie.Need-mul-low-arcs Inv-loop μ-loop
-mul-low-arcs c = ?
+mul-low-arcs c = search needs
 
--- src/arcs.rt:68:9
 element-write-low-arcs-3 : tie.Need-element-write-low-arcs-3 Inv-loop μ-loop
-element-write-low-arcs-3 c = ?
+element-write-low-arcs-3 c = search needs
 
--- src/arcs.rt:69:9
 add-k : tie.Need-add-k Inv-loop μ-loop
-add-k c = ?
+add-k c = search needs
 
--- src/arcs.rt:63:5
 loop-less : tie.Need-loop-less Inv-loop μ-loop
-loop-less c = ?
+loop-less c = search needs
 
--- src/arcs.rt:63:5
 loop-again : tie.Need-loop-again Inv-loop μ-loop
-loop-again c = ?
+loop-again c =
+    let inv = c .before .before .before .before .before .before .before .before .before .before .before .before .before .loop .inv in
+    let high = c .before .before .before .before .arc .ensures ∙ high-read (c .before .before .before .before .before) .weight in
+    let low = c .arc2 .ensures ∙ low-read (c .before) .weight in
+    (omega arith, inv .1, written-next _ (inv .2) (omega arith) refl high, written-next _ (inv .3) (omega arith) refl low)
 
--- src/arcs.rt:51:1
 returns : tie.Need-returns Inv-loop μ-loop
-returns c = ?
+returns c =
+    let inv = c .before .loop .inv in
+    let start = c .before .before .before in
+    let e : c .before .loop .k ≡ start .args .n = omega arith in
+    (written-all (start .args .high-arcs .now) (rw e at (inv .2)) refl, written-all (start .args .low-arcs .now) (rw e at (inv .3)) refl)
 
 pub arc-weights-spec : {M : Type 1} → statement M
 arc-weights-spec =

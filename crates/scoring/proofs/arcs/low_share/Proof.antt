@@ -1,43 +1,43 @@
+-- `low_share` meets its contract: a word of kind 2 is a choice, any other a chance. Assumes nothing.
+use native.Mathlib.Omega.{arith}
+use mathlib.Core.Path.{_≡_}
 use borrow.Author.Needs.{needs}
+use Rattle.diagram.specs.Words.{fieldQ, fieldR}
+use Rattle.diagram.specs.Table.{chance, variableOf}
+use Rattle.scoring.specs.Value.{lowShare}
+use Rattle.scoring.proofs.Arcing.{word-choice, word-chance}
 use Rattle.scoring.proofs.arcs.low_share.Statement.{statement}
 use Rattle.scoring.proofs.arcs.low_share.Tie as tie
-use Rattle.scoring.proofs.arcs.low_share.Reads as reads
-use Rattle.scoring.proofs.arcs.low_share.Lts as lts
-use Rattle.diagram.proofs.field_q.Reads as field-q-reads
-use Rattle.diagram.proofs.field_r.Reads as field-r-reads
-use Rattle.diagram.proofs.kind.Reads as kind-reads
 
--- src/arcs.rt:94:8
+chance-read : (c : tie.Else1) → variableOf (c .before .before .args .w) ≡ chance (fieldQ (c .before .before .args .w)) (fieldR (c .before .before .args .w))
+chance-read c = word-chance _ (rw (c .before .kind .ensures) at (c .if1 .left))
+
 kind-requires : tie.Need-kind-requires
 kind-requires c κs = search needs
 
--- src/arcs.rt:95:9
 returns : tie.Need-returns
-returns c = ?
+unfolding lowShare
+returns c = rw (word-choice _ (rw (c .before .kind .ensures) at (c .if1 .taken)))
 
--- src/arcs.rt:97:13
 field-q-requires : tie.Need-field-q-requires
 field-q-requires c κs = search needs
 
--- src/arcs.rt:97:13
 cast-a : tie.Need-cast-a
 cast-a c = search needs
 
--- src/arcs.rt:98:13
 field-r-requires : tie.Need-field-r-requires
 field-r-requires c κs = search needs
 
--- src/arcs.rt:98:13
 cast-b : tie.Need-cast-b
 cast-b c = search needs
 
--- src/arcs.rt:100:9
 returns-2 : tie.Need-returns-2
-returns-2 c = ?
+unfolding lowShare
+returns-2 c = rw (chance-read (c .before .before .before)) (omega arith)
 
--- src/arcs.rt:91:1
 returns-3 : tie.Need-returns-3
-returns-3 c = ?
+unfolding lowShare
+returns-3 c = rw (chance-read (c .before .before .before)) (omega arith)
 
 pub low-share-spec : {M : Type 1} → statement M
 low-share-spec =

@@ -1,40 +1,42 @@
+-- `share_sum` meets its contract: a word of kind 2 is a choice, any other a chance. Assumes nothing.
+use Prim.Native.Nat.{_+_}
+use native.Mathlib.Omega.{arith}
+use mathlib.Core.Path.{sym, _∙_}
+use borrow.Author.Tests.{eqb-true, eqb-false}
 use borrow.Author.Needs.{needs}
+use Rattle.diagram.specs.Words.{wordAt, kind}
+use Rattle.diagram.specs.Table.{scaleOf}
+use Rattle.reading.proofs.Counting.{is-choice-kind}
+use Rattle.scoring.proofs.Arcing.{word-choice, word-chance}
 use Rattle.scoring.proofs.arcs.share_sum.Statement.{statement}
 use Rattle.scoring.proofs.arcs.share_sum.Tie as tie
-use Rattle.scoring.proofs.arcs.share_sum.Reads as reads
-use Rattle.scoring.proofs.arcs.share_sum.Lts as lts
-use Rattle.diagram.proofs.numbering.Position.word.Reads as word-reads
-use Rattle.diagram.proofs.field_r.Reads as field-r-reads
-use Rattle.diagram.proofs.word_at.Reads as word-at-reads
-use Rattle.reading.proofs.is_choice.Reads as is-choice-reads
 
--- src/arcs.rt:43:8
 is-choice-requires : tie.Need-is-choice-requires
 is-choice-requires c κs = search needs
 
--- src/arcs.rt:46:31
 word-requires : tie.Need-word-requires
 word-requires c κs = search needs
 
--- src/arcs.rt:46:17
 word-at-requires : tie.Need-word-at-requires
 word-at-requires c κs = search needs
 
--- src/arcs.rt:46:9
 field-r-requires : tie.Need-field-r-requires
 field-r-requires c κs = search needs
 
--- src/arcs.rt:46:9
 cast-result : tie.Need-cast-result
 cast-result c = search needs
 
--- src/arcs.rt:40:1
 returns : tie.Need-returns
-returns c = ?
+unfolding scaleOf
+returns c = rw (word-choice _ (eqb-true _ _ (sym (is-choice-kind _) ∙ sym (c .before .is-choice .ensures) ∙ c .if1 .taken)))
 
--- src/arcs.rt:40:1
 returns-2 : tie.Need-returns-2
-returns-2 c = ?
+unfolding scaleOf
+returns-2 c =
+    let file = c .before .before .before .before .before .before .args .file .now in
+    let w = wordAt file (1 + c .before .before .before .before .before .before .args .at .0) in
+    let tested = sym (is-choice-kind w) ∙ sym (c .before .before .before .before .is-choice .ensures) ∙ c .before .before .before .if1 .left in
+    rw (word-chance w (eqb-false (kind w) 2 tested), c .field-r .ensures, c .before .word-at .ensures, c .before .before .word .ensures) (omega arith)
 
 pub share-sum-spec : {M : Type 1} → statement M
 share-sum-spec =

@@ -1,0 +1,106 @@
+-- What is known of a file that no check finds at fault: its records are formed and monotone, its variables have shares, and its numbers are within
+-- their limits.
+-- Assumes nothing.
+use Prim.Native.Nat.{ℕ, zero, suc, _+_, _-_, _≤_, _<_, _^_}
+use native.Mathlib.Decide.{decLt}
+use native.Mathlib.Omega.{arith}
+use mathlib.Core.Path.{_≡_, refl, sym, _∙_}
+use mathlib.Core.Bool.{Bool, true, false, not, cond, _&&_, _||_, or-true}
+use mathlib.Core.Logic.{by-cases}
+use mathlib.Core.Option.{none}
+use mathlib.Core.List.{List, _∷_}
+use lib.ListN.{length}
+use lib.Seq.{take-all}
+use lib.Dec.{eqb, leb}
+use borrow.Author.Tests.{ltb-false, leb-true, not-false}
+use Rattle.diagram.specs.Words.{wordAt, kind, fieldP, fieldQ, fieldR}
+use Rattle.diagram.specs.Table.{Variable, choice, chance, variableOf, recordOf, sequence, tableOf, variableCount, recordCount, choiceCount, scaleOf, scale}
+use Rattle.diagram.specs.Checks.{firstPlace, headingFault, isVariableWord, variableFault, choiceFault, scaleFault, isMonotoneAt, monotoneFault}
+use Rattle.diagram.proofs.Every.{both}
+use Rattle.diagram.proofs.Places.{sequence-length, none-at}
+use Rattle.diagram.proofs.Checked.{Passed}
+use Rattle.diagram.proofs.Truth.{Formed}
+use Rattle.diagram.proofs.Implication.{implies-same}
+use Rattle.diagram.proofs.FirstVariable.{Shares, no-shares, choice-shares, chance-shares}
+use Rattle.diagram.proofs.Rising.{Monotone}
+use Rattle.reading.specs.Nodes.{Shaped}
+use Rattle.reading.proofs.Counting.{variables-length, above}
+use Rattle.reading.proofs.Shape.{heading-variables, heading-records, record-past, shaped-formed}
+use Rattle.reading.proofs.Pairing.{unmonotone-at, unmonotone-test}
+
+-- ---------------------------------------------------------------------------
+-- The heading and the records
+
+pub passed-variables : {s : List ℕ} → Passed s → (1 ≤ length (tableOf s .variables)) × (length (tableOf s .variables) ≤ 60)
+passed-variables {s} h = rw variables-length (heading-variables s (h .heading))
+
+pub records-length : (s : List ℕ) → length (tableOf s .records) ≡ recordCount s
+unfolding tableOf
+records-length s = sequence-length (λ i. recordOf (wordAt s i)) (1 + variableCount s) (recordCount s)
+
+pub passed-records : {s : List ℕ} → Passed s → (1 ≤ length (tableOf s .records)) × (length (tableOf s .records) ≤ 254)
+passed-records {s} h = rw records-length (heading-records s (h .heading))
+
+pub passed-shaped : {s : List ℕ} → Passed s → Shaped s
+passed-shaped h = record { heading = h .heading; count = h .count; records = h .records }
+
+pub passed-formed : {s : List ℕ} → Passed s → Formed (length (tableOf s .variables)) (tableOf s .records)
+passed-formed {s} h = rw variables-length (shaped-formed s (passed-shaped h))
+
+-- past the last record both children are one
+pub passed-monotone : {s : List ℕ} → Passed s → Monotone (tableOf s)
+unfolding monotoneFault isMonotoneAt
+passed-monotone {s} h k =
+    by-cases (decLt k (recordCount s))
+    (λ l. not-false _ (sym (unmonotone-test s k refl) ∙ none-at (unmonotone-at s) (1 + variableCount s) (recordCount s) k (h .monotone) l))
+    (λ l. rw (record-past s k (omega arith), implies-same, or-true))
+
+-- ---------------------------------------------------------------------------
+-- The variables
+
+-- a word that check 14 lets through is a variable with a share
+word-shares : (i w : ℕ) {vs : List Variable} → isVariableWord i w ≡ true → Shares vs → Shares (variableOf w ∷ vs)
+unfolding isVariableWord variableOf
+word-shares i w {vs} h rest =
+    go (eqb (kind w) 2) (eqb (fieldQ w) 0) (eqb (fieldR w) 0) (eqb (kind w) 3) (fieldQ w) (fieldR w) (both (eqb (fieldP w) i) h .1)
+  where
+    go : (b x y c : Bool) (p q : ℕ) → (b && x && y || c && (leb 1 q && leb q 1000) && leb p q) ≡ true → Shares (cond b choice (chance p q) ∷ vs)
+    go true x y c p q e = choice-shares rest
+    go false x y c p q e =
+        let tests = both (c && (leb 1 q && leb q 1000)) e in
+        let range = both (leb 1 q) (both c (tests .0) .1) in
+        chance-shares (leb-true p q (tests .1)) (leb-true 1 q (range .0)) rest
+
+words-shares : (s : List ℕ) (i n : ℕ) → ((k : ℕ) → k < n → isVariableWord (i + k - 1) (wordAt s (i + k)) ≡ true) → Shares (sequence (λ i. variableOf (wordAt s i)) i n)
+unfolding sequence
+words-shares s i zero h = no-shares
+words-shares s i (suc n) h =
+    let from : i + 0 ≡ i = omega arith in
+    word-shares (i - 1) (wordAt s i) (rw from at (h 0 (omega arith)))
+    (words-shares s (suc i) n (λ k l. let on : i + suc k ≡ suc i + k = omega arith in rw on at (h (suc k) (omega arith))))
+
+pub passed-shares : {s : List ℕ} → Passed s → Shares (tableOf s .variables)
+unfolding tableOf variableFault
+passed-shares {s} h =
+    words-shares s 1 (variableCount s)
+    (λ k l. not-false _ (none-at (λ i. not (isVariableWord (i - 1) (wordAt s i))) 1 (variableCount s) k (h .variables) l))
+
+-- ---------------------------------------------------------------------------
+-- Limits
+
+-- a number of the variables that is above its limit at no word is within it at the last
+whole-within : (number : List Variable → ℕ) (limit : ℕ) (s : List ℕ) → headingFault s ≡ none → firstPlace (above number limit s) 1 (variableCount s) ≡ none → number (tableOf s .variables) ≤ limit
+whole-within number limit s heading e =
+    let some-variable = heading-variables s heading in
+    let last : 1 + (variableCount s - 1) ≡ variableCount s = omega arith in
+    let all = take-all (variableCount s) (tableOf s .variables) (omega (arith, variables-length s)) in
+    let passes = none-at (above number limit s) 1 (variableCount s) (variableCount s - 1) e (omega arith) in
+    ltb-false limit _ (rw (last, all) at passes)
+
+pub passed-choices : {s : List ℕ} → Passed s → choiceCount (tableOf s .variables) ≤ 20
+unfolding choiceFault
+passed-choices {s} h = whole-within choiceCount 20 s (h .heading) (h .choices)
+
+pub passed-scale : {s : List ℕ} → Passed s → scale (tableOf s) ≤ 2 ^ 56
+unfolding scaleFault scale
+passed-scale {s} h = whole-within scaleOf (2 ^ 56) s (h .heading) (h .scale)

@@ -1,0 +1,263 @@
+-- Arrays that a loop writes cell by cell, the products of b from each position on, and the weight of an arc as a quotient of two of them.
+-- Assumes of the file that no check finds it at fault (`Passed`), and of the variables what check 14 finds (`Shares`), where a law says so.
+use Prim.Native.Nat.{ℕ, zero, suc, _+_, _*_, _/_, _≤_, _<_, _^_}
+use native.Mathlib.Nat.{le-refl, zero-add, mul-le-mul-left, mul-le-mul-right, mul-div-cancel, eq-or-lt-of-le}
+use native.Mathlib.Numerals.{add-one}
+use native.Mathlib.Omega.{arith}
+use mathlib.Core.Path.{_≡_, refl, ap, sym, _∙_}
+use mathlib.Core.Logic.{⊎-elim}
+use mathlib.Core.List.{List, [], _∷_, _++_}
+use lib.ListN.{length, getD, set, drop, replicate, length-append, length-drop, length-set, List·getD-append, getD-replicate}
+use lib.Seq.{set-at, drop-cons, append-snoc, drop-set-lt, getD-set-same, getD-set-other, ext-getD}
+use borrow.Author.Tests.{eq-eqb, ne-eqb}
+use Rattle.diagram.specs.Words.{wordAt, kind, fieldQ, fieldR}
+use Rattle.diagram.specs.Table.{Variable, choice, chance, Record, Table, sequence, variableOf, recordAt, scaleOf, scale, tableOf}
+use Rattle.diagram.specs.Checks.{positionOf}
+use Rattle.diagram.proofs.Places.{sequence-length, sequence-at}
+use Rattle.diagram.proofs.Checked.{Passed}
+use Rattle.diagram.proofs.Locality.{position-le, position-less}
+use Rattle.diagram.proofs.FirstVariable.{Shares, no-shares, choice-shares, chance-shares, scale-positive}
+use Rattle.reading.specs.Nodes.{column}
+use Rattle.reading.proofs.Counting.{variables-length}
+use Rattle.reading.proofs.Columns.{sequence-snoc}
+use Rattle.reading.proofs.Pairing.{column-at, variable-at}
+use Rattle.reading.proofs.Accepted.{passed-variables, passed-formed, passed-shares, passed-scale}
+use Rattle.scoring.specs.Value.{place, gap, variableAt, highShare, lowShare, highArc, lowArc}
+use Rattle.scoring.specs.Passes.{over, byNode, products, Decoded}
+use Rattle.scoring.proofs.Values.{gap-scale, shares-drop, shares-sum}
+
+-- ---------------------------------------------------------------------------
+-- Arrays by node number, written record after record
+
+-- of an array that held `old`, the cells of the ends and of the first k records are written
+pub record Written (f : ℕ → ℕ) (old cells : List ℕ) (k : ℕ) : Type 0 where
+  pub room : length old ≡ 256
+  pub size : length cells ≡ 256
+  pub whole : cells ≡ over (byNode f k) old
+
+module _ (f : ℕ → ℕ) where
+  byNode-length : (n : ℕ) → length (byNode f n) ≡ n + 2
+  unfolding byNode
+  byNode-length n = omega (arith, sequence-length f 0 n)
+
+  byNode-snoc : (n : ℕ) → byNode f n ++ (f n ∷ []) ≡ byNode f (suc n)
+  unfolding byNode
+  byNode-snoc n = ap (λ (l : List ℕ). 0 ∷ 0 ∷ l) (rw zero-add at (sequence-snoc f 0 n))
+
+  over-snoc : (old : List ℕ) (k : ℕ) → k + 2 < length old → set (over (byNode f k) old) (k + 2) (f k) ≡ over (byNode f (k + 1)) old
+  unfolding over
+  over-snoc old k h =
+      let on : k + 1 + 2 ≡ suc (k + 2) = omega arith in
+      let here = set-at (byNode f k) (getD old (k + 2) 0) (drop (suc (k + 2)) old) (f k) (k + 2) (byNode-length k) in
+      rw (byNode-length, byNode-length, on, drop-cons old (k + 2) 0 h, here, add-one, ← byNode-snoc k)
+      (sym (append-snoc (byNode f k) (f k) (drop (suc (k + 2)) old)))
+
+  -- the cell of record k, once it is written
+  pub over-at : (old : List ℕ) (n k : ℕ) → k < n → getD (over (byNode f n) old) (k + 2) 0 ≡ f k
+  unfolding over byNode
+  over-at old n k h =
+      let at : k + 2 ≡ suc (suc k) = omega arith in
+      let long = sequence-length f 0 n in
+      rw (at, List·getD-append (sequence f 0 n) (drop (suc (suc (length (sequence f 0 n)))) old) 0 k (omega arith), sequence-at f 0 n k 0 h, zero-add)
+
+pub over-length : (new old : List ℕ) → length new ≤ length old → length (over new old) ≡ length old
+unfolding over
+over-length new old h = simp (length-append, length-drop) (omega arith)
+
+-- the ends' cells are written before the loop
+pub written-start : {f : ℕ → ℕ} {cells : List ℕ} (old : List ℕ) → length old ≡ 256 → cells ≡ set (set old 0 0) 1 0 → Written f cells cells 0
+unfolding over byNode sequence
+written-start {f} {cells} old h e = rw e (start old h)
+  where
+    start : (l : List ℕ) → length l ≡ 256 → Written f (set (set l 0 0) 1 0) (set (set l 0 0) 1 0) 0
+    start [] h = absurd (omega arith)
+    start (a ∷ []) h = absurd (omega arith)
+    start (a ∷ b ∷ l) h = record { room = h; size = h; whole = refl }
+
+pub written-next : {f : ℕ → ℕ} {old before cells : List ℕ} {k : ℕ} (x : ℕ) → Written f old before k → k < 254 → cells ≡ set before (k + 2) x → x ≡ f k → Written f old cells (k + 1)
+written-next {f} {old} {k} x w h e y =
+    let room = w .room in
+    let size = w .size in
+    record {
+      room = w .room;
+      size = rw e (simp length-set size);
+      whole = rw (e, y, w .whole) (over-snoc f old k (omega arith));
+    }
+
+-- what the ends' cells held before they were written does not matter
+pub written-all : {f : ℕ → ℕ} {old cells : List ℕ} {n : ℕ} (first : List ℕ) → Written f old cells n → old ≡ set (set first 0 0) 1 0 → cells ≡ over (byNode f n) first
+unfolding over
+written-all {f} {n} first w e =
+    rw (w .whole, e, byNode-length, drop-set-lt (n + 2) (set first 0 0) 1 0 (omega arith), drop-set-lt (n + 2) first 0 0 (omega arith))
+
+-- ---------------------------------------------------------------------------
+-- A word's variable
+
+module _ (w : ℕ) where
+  pub word-choice : kind w ≡ 2 → variableOf w ≡ choice
+  unfolding variableOf
+  word-choice e = simp (eq-eqb (kind w) 2 e)
+
+  pub word-chance : (kind w ≡ 2 → ⊥) → variableOf w ≡ chance (fieldQ w) (fieldR w)
+  unfolding variableOf
+  word-chance e = simp (ne-eqb (kind w) 2 e)
+
+-- ---------------------------------------------------------------------------
+-- An array by position, written from the last position on
+
+-- the cells from position p on are written
+pub record From (f : ℕ → ℕ) (p : ℕ) (cells : List ℕ) : Type 0 where
+  pub size : length cells ≡ 64
+  pub at : (x : ℕ) → p ≤ x → x < 64 → getD cells x 0 ≡ f x
+
+module _ {f : ℕ → ℕ} where
+  pub from-start : (p one : ℕ) → ((x : ℕ) → p ≤ x → f x ≡ one) → From f p (replicate 64 one)
+  from-start p one h = record { size = refl; at = λ x l m. getD-replicate 64 x one 0 m ∙ sym (h x l) }
+
+  pub from-next : {p q : ℕ} {before : List ℕ} (x : ℕ) → From f q before → q ≡ p + 1 → p < 64 → x ≡ f p → From f p (set before p x)
+  from-next {p} {q} {before} x w e h y =
+      let size = w .size in
+      record {
+        size = simp length-set size;
+        at = λ i l m. ⊎-elim
+            (λ e. rw (← e, getD-set-same before p x 0 (omega arith)) y)
+            (λ less. rw (getD-set-other before p i x 0 (omega arith)) (w .at i (omega arith) m))
+            (eq-or-lt-of-le {n = p} {m = i} l);
+      }
+
+  pub from-all : {cells : List ℕ} → From f 0 cells → cells ≡ sequence f 0 64
+  from-all {cells} w =
+      let size = w .size in
+      let long = sequence-length f 0 64 in
+      ext-getD 0 cells (sequence f 0 64) (omega arith)
+      (λ i l. w .at i (omega arith) (omega arith) ∙ sym (sequence-at f 0 64 i 0 (omega arith) ∙ rw zero-add))
+
+-- ---------------------------------------------------------------------------
+-- The product of b from a position on
+
+-- past the last variable it is 1
+pub suffix-past : (vs : List Variable) (x : ℕ) → length vs ≤ x → scaleOf (drop x vs) ≡ 1
+unfolding scaleOf
+suffix-past [] zero h = refl
+suffix-past [] (suc x) h = refl
+suffix-past (v ∷ vs) zero h = absurd (omega arith)
+suffix-past (v ∷ vs) (suc x) h = suffix-past vs x (omega arith)
+
+scale-cons : (v : Variable) (vs : List Variable) → scaleOf (v ∷ vs) ≡ scaleOf vs * scaleOf (v ∷ [])
+unfolding scaleOf
+scale-cons choice vs = omega arith
+scale-cons (chance a b) vs = omega arith
+
+pub suffix-step : (vs : List Variable) (x : ℕ) → x < length vs → scaleOf (drop x vs) ≡ scaleOf (drop (x + 1) vs) * scaleOf (getD vs x (chance 0 1) ∷ [])
+suffix-step vs x h = rw (drop-cons vs x (chance 0 1) h, add-one) (scale-cons (getD vs x (chance 0 1)) (drop (suc x) vs))
+
+pub suffix-le : {vs : List Variable} → Shares vs → (x : ℕ) → scaleOf (drop x vs) ≤ scaleOf vs
+unfolding scaleOf
+suffix-le h zero = le-refl _
+suffix-le no-shares (suc x) = le-refl _
+suffix-le (choice-shares h) (suc x) = suffix-le h x
+suffix-le (chance-shares {b} {vs} ab b1 h) (suc x) = omega (arith, suffix-le h x, mul-le-mul-right (scaleOf vs) b1)
+
+-- the product between two positions is the quotient of the products from each on
+pub suffix-gap : (t : Table) (x y : ℕ) → Shares (t .variables) → x ≤ y → y ≤ length (t .variables) → scaleOf (drop x (t .variables)) / scaleOf (drop y (t .variables)) ≡ gap t x y
+suffix-gap t x y h l m = rw (← gap-scale t x y l m) (mul-div-cancel (gap t x y) (scale-positive (shares-drop h y)))
+
+-- the product from position x on, in a file's table
+abbrev pub suffix : (file : List ℕ) → (x : ℕ) → ℕ
+suffix s x = scaleOf (drop x (tableOf s .variables))
+
+-- the product from a position on is the product after it, times its own b
+pub suffix-down : (s : List ℕ) (p : ℕ) {x b : ℕ} → p < length (tableOf s .variables) → x ≡ suffix s (p + 1) → b ≡ scaleOf (variableOf (wordAt s (1 + p)) ∷ []) → x * b ≡ suffix s p
+suffix-down s p h e f =
+    let v = variables-length s in
+    rw (suffix-step (tableOf s .variables) p h, variable-at s p (omega arith), e, f)
+
+pub suffix-fits : {s : List ℕ} → Passed s → (x : ℕ) → suffix s x ≤ 2 ^ 56
+unfolding scale
+suffix-fits h x = omega (arith, suffix-le (passed-shares h) x, passed-scale h)
+
+-- ---------------------------------------------------------------------------
+-- The weight of an arc
+
+-- a share, times the quotient of the products that qs holds for positions i + 1 and j, can be computed and is the arc's weight
+pub record Exact (qs : List ℕ) (i j share arc : ℕ) : Type 0 where
+  pub from : i < 63
+  pub to : j < 64
+  pub positive : 0 < getD qs j 0
+  pub fits : share * (getD qs (i + 1) 0 / getD qs j 0) ≤ 2 ^ 56
+  pub weight : share * (getD qs (i + 1) 0 / getD qs j 0) ≡ arc
+
+-- where node n stands, by an array of positions
+pub column-position : (v : ℕ) (rs : List Record) (n : ℕ) → n < 256 → getD (column v (λ (r : Record). r .position) rs) n 0 ≡ positionOf v rs n
+unfolding column positionOf
+column-position v rs zero h = refl
+column-position v rs (suc zero) h = refl
+column-position v rs (suc (suc k)) h = sequence-at (λ i. recordAt rs i .position) 0 254 k 0 (omega arith) ∙ rw zero-add
+
+pub products-at : (t : Table) (x : ℕ) → x < 64 → getD (products t) x 0 ≡ scaleOf (drop x (t .variables))
+unfolding products
+products-at t x h = sequence-at (λ i. scaleOf (drop i (t .variables))) 0 64 x 0 h ∙ rw zero-add
+
+-- a share, times b of the variables after position x and before position y, is at most the product from x on
+gap-fits : (t : Table) (x y share : ℕ) → Shares (t .variables) → x < y → y ≤ length (t .variables) → share * scaleOf (drop (x + 1) (t .variables)) ≤ scaleOf (drop x (t .variables)) → share * gap t (x + 1) y ≤ scaleOf (drop x (t .variables))
+gap-fits t x y share h l m e =
+    omega (
+      arith,
+      ap (λ (z : ℕ). share * z) (gap-scale t (x + 1) y (omega arith) m),
+      mul-le-mul-left (share * gap t (x + 1) y) (scale-positive (shares-drop h y)),
+    )
+
+-- the shares of a variable's two arcs, times the product after it, are the product from it on
+suffix-shares : (t : Table) (x : ℕ) → Shares (t .variables) → x < length (t .variables) → (m : ℕ) → let v = getD (t .variables) x (chance 0 1) in (highShare v m + lowShare v m) * scaleOf (drop (x + 1) (t .variables)) ≡ scaleOf (drop x (t .variables))
+suffix-shares t x h l m =
+    let first = drop-cons (t .variables) x (chance 0 1) l in
+    rw (first, add-one) (shares-sum (rw first at (shares-drop h x)) m)
+
+module _ {s ps hs ls qs : List ℕ} (passed : Passed s) (d : Decoded s ps hs ls) (held : qs ≡ products (tableOf s)) (k : ℕ) (few : k < 254) where
+  position-at : getD ps (k + 2) 0 ≡ recordAt (tableOf s .records) k .position
+  position-at = rw (d .positions) (column-at _ _ _ k few)
+
+  variable-read : variableOf (wordAt s (1 + getD ps (k + 2) 0)) ≡ variableAt (tableOf s) k
+  unfolding variableAt
+  variable-read =
+      let v = variables-length s in
+      let less = position-less (passed-formed passed) k in
+      rw position-at (sym (variable-at s (recordAt (tableOf s .records) k .position) (omega arith)))
+
+  -- an arc to child n, with the share of the arc
+  arc-exact : (n share : ℕ) → n < k + 2 → recordAt (tableOf s .records) k .position < place (tableOf s) n → share * suffix s (recordAt (tableOf s .records) k .position + 1) ≤ suffix s (recordAt (tableOf s .records) k .position) → Exact qs (getD ps (k + 2) 0) (getD ps n 0) share (share * gap (tableOf s) (recordAt (tableOf s .records) k .position + 1) (place (tableOf s) n))
+  unfolding place
+  arc-exact n share small later fit =
+      let t = tableOf s in
+      let x = recordAt (t .records) k .position in
+      let y = place t n in
+      let v = passed-variables passed in
+      let within : y ≤ length (t .variables) = position-le (passed-formed passed) n in
+      let to : getD ps n 0 ≡ y = rw (d .positions, ← variables-length s) (column-position (length (t .variables)) (t .records) n (omega arith)) in
+      let quotient = suffix-gap t (x + 1) y (passed-shares passed) (omega arith) within in
+      let weight : share * (getD qs (x + 1) 0 / getD qs y 0) ≡ share * gap t (x + 1) y = rw (held, products-at t (x + 1) (omega arith), products-at t y (omega arith), quotient) in
+      rw (position-at, to) (record {
+        from = omega arith;
+        to = omega arith;
+        positive = rw (held, products-at t y (omega arith)) (scale-positive (shares-drop (passed-shares passed) y));
+        fits = rw weight (omega (arith, gap-fits t x y share (passed-shares passed) later within fit, suffix-fits passed x));
+        weight = weight;
+      })
+
+  pub high-exact : Exact qs (getD ps (k + 2) 0) (getD ps (getD hs (k + 2) 0) 0) (highShare (variableOf (wordAt s (1 + getD ps (k + 2) 0))) 1) (highArc (tableOf s) k)
+  unfolding highArc variableAt place
+  high-exact =
+      let formed = passed-formed passed in
+      let x = recordAt (tableOf s .records) k .position in
+      let shares = suffix-shares (tableOf s) x (passed-shares passed) (position-less formed k) 1 in
+      let child : getD hs (k + 2) 0 ≡ recordAt (tableOf s .records) k .hi = rw (d .high) (column-at _ _ _ k few) in
+      rw (variable-read, child) (arc-exact (recordAt (tableOf s .records) k .hi) (highShare (variableAt (tableOf s) k) 1) (formed .hiLess k) (formed .hiLater k) (omega arith))
+
+  pub low-exact : Exact qs (getD ps (k + 2) 0) (getD ps (getD ls (k + 2) 0) 0) (lowShare (variableOf (wordAt s (1 + getD ps (k + 2) 0))) 2) (lowArc (tableOf s) k)
+  unfolding lowArc variableAt place
+  low-exact =
+      let formed = passed-formed passed in
+      let x = recordAt (tableOf s .records) k .position in
+      let shares = suffix-shares (tableOf s) x (passed-shares passed) (position-less formed k) 2 in
+      let child : getD ls (k + 2) 0 ≡ recordAt (tableOf s .records) k .lo = rw (d .low) (column-at _ _ _ k few) in
+      rw (variable-read, child) (arc-exact (recordAt (tableOf s .records) k .lo) (lowShare (variableAt (tableOf s) k) 2) (formed .loLess k) (formed .loLater k) (omega arith))
