@@ -1,15 +1,16 @@
+-- `high_weight` meets its contract, test by test. Assumes nothing.
+use borrow.Author.Tests.{eq-eqb, ne-eqb}
+use Rattle.scoring.specs.Passes.{highInForce}
 use Rattle.scoring.proofs.force.high_weight.Statement.{statement}
 use Rattle.scoring.proofs.force.high_weight.Tie as tie
-use Rattle.scoring.proofs.force.high_weight.Reads as reads
-use Rattle.scoring.proofs.force.high_weight.Lts as lts
 
--- src/force.rt:62:1
 returns : tie.Need-returns
-returns c = ?
+unfolding highInForce
+returns c = simp (eq-eqb _ _ (c .if1 .taken))
 
--- src/force.rt:62:1
 returns-2 : tie.Need-returns-2
-returns-2 c = ?
+unfolding highInForce
+returns-2 c = simp (ne-eqb _ _ (c .if1 .left))
 
 pub high-weight-spec : {M : Type 1} → statement M
 high-weight-spec = tie.close (tie.spec returns returns-2)

@@ -1,124 +1,128 @@
+-- `in_force` meets its contract. The loop's invariant: the cells of the first k records hold the weights in force, and the others are as they were.
+-- The measure is the number of records left. Assumes nothing.
+use Prim.Native.Nat.{ℕ, _+_, _-_, _≤_}
+use native.Mathlib.Omega.{arith}
+use mathlib.Core.Path.{_≡_, refl, _∙_}
+use mathlib.Core.List.{List}
+use lib.ListN.{getD}
+use Rattle.scoring.specs.Passes.{markAtNode, highInForce, lowInForce}
+use Rattle.scoring.proofs.Arcing.{Written, written-start, written-next, written-all}
 use Rattle.scoring.proofs.force.in_force.Statement.{statement}
 use Rattle.scoring.proofs.force.in_force.Tie as tie
-use Rattle.scoring.proofs.force.in_force.Reads as reads
-use Rattle.scoring.proofs.force.in_force.Lts as lts
-use Rattle.diagram.proofs.numbering.Node.of_record.Reads as of-record-reads
-use Rattle.reading.proofs.position_of.Reads as position-of-reads
-use Rattle.scoring.proofs.force.high_weight.Reads as high-weight-reads
-use Rattle.scoring.proofs.force.low_weight.Reads as low-weight-reads
-use Rattle.scoring.proofs.force.mark_at.Reads as mark-at-reads
+
+-- the weights in force of record k's arcs
+abbrev high : (positions marks arcs : List ℕ) → ℕ → ℕ
+high ps ms ws k = highInForce (markAtNode ps ms k) (getD ws (k + 2) 0)
+
+abbrev low : (positions marks arcs : List ℕ) → ℕ → ℕ
+low ps ms ws k = lowInForce (markAtNode ps ms k) (getD ws (k + 2) 0)
 
 abbrev Inv-loop : tie.InvT-loop
 Inv-loop n positions marks high-arcs low-arcs high-weights₀ low-weights₀ k₀ high-weights low-weights k =
-    ?
+    (k ≤ n)
+    × Written (high positions marks high-arcs) high-weights₀ high-weights k
+    × Written (low positions marks low-arcs) low-weights₀ low-weights k
 
 abbrev μ-loop : tie.MeasureT-loop
-μ-loop n positions marks high-arcs low-arcs high-weights₀ low-weights₀ k₀ high-weights low-weights k =
-    ?
+μ-loop n positions marks high-arcs low-arcs high-weights₀ low-weights₀ k₀ high-weights low-weights k = n - k
 
--- src/force.rt:41:5
+-- the mark of a turn
+mark : (c : tie.After-mark-at Inv-loop μ-loop) → c .mark-at .result ≡ markAtNode (c .before .before .before .before .before .args .positions .now) (c .before .before .before .before .before .args .marks .now) (c .before .before .before .before .loop .k)
+unfolding markAtNode
+mark c = rw (c .mark-at .ensures, c .before .position-of .ensures, c .before .before .of-record .ensures)
+
 element-write-high-weights : tie.Need-element-write-high-weights Inv-loop μ-loop
-element-write-high-weights c = ?
+element-write-high-weights c = omega arith
 
--- src/force.rt:42:5
 element-write-high-weights-2 : tie.Need-element-write-high-weights-2 Inv-loop μ-loop
-element-write-high-weights-2 c = ?
+element-write-high-weights-2 c = omega arith
 
--- src/force.rt:43:5
 element-write-low-weights : tie.Need-element-write-low-weights Inv-loop μ-loop
-element-write-low-weights c = ?
+element-write-low-weights c = omega arith
 
--- src/force.rt:44:5
 element-write-low-weights-2 : tie.Need-element-write-low-weights-2 Inv-loop μ-loop
-element-write-low-weights-2 c = ?
+element-write-low-weights-2 c = omega arith
 
--- src/force.rt:46:5
 loop-holds : tie.Need-loop-holds Inv-loop μ-loop
-loop-holds c = ?
+loop-holds c = (
+  omega arith,
+  written-start (c .args .high-weights .now) (c .pre .1 .0) refl,
+  written-start (c .args .low-weights .now) (c .pre .1 .1) refl,
+)
 
--- src/force.rt:47:55
 of-record-requires : tie.Need-of-record-requires Inv-loop μ-loop
-of-record-requires c κs = ?
+of-record-requires c κs = omega arith
 
--- src/force.rt:47:32
 position-of-requires : tie.Need-position-of-requires Inv-loop μ-loop
-position-of-requires c κs = ?
+position-of-requires c κs = tt
 
--- src/force.rt:47:13
 mark-at-requires : tie.Need-mark-at-requires Inv-loop μ-loop
-mark-at-requires c κs = ?
+mark-at-requires c κs = rw (c .position-of .ensures) (c .before .before .before .before .pre .0 .1 _)
 
--- src/force.rt:48:56
 add-high-weight : tie.Need-add-high-weight Inv-loop μ-loop
-add-high-weight c = ?
+add-high-weight c = omega arith
 
--- src/force.rt:48:46
 mul-high-weight : tie.Need-mul-high-weight Inv-loop μ-loop
-mul-high-weight c = ?
+mul-high-weight c = omega arith
 
--- src/force.rt:48:46
 element-copy-out-high-weight : tie.Need-element-copy-out-high-weight Inv-loop μ-loop
-element-copy-out-high-weight c = ?
+element-copy-out-high-weight c = omega arith
 
--- src/force.rt:48:31
 high-weight-requires : tie.Need-high-weight-requires Inv-loop μ-loop
-high-weight-requires c κs = ?
+high-weight-requires c κs = tt
 
--- src/force.rt:48:22
 add-high-weights : tie.Need-add-high-weights Inv-loop μ-loop
-add-high-weights c = ?
+add-high-weights c = omega arith
 
--- src/force.rt:48:9
 mul-high-weights : tie.Need-mul-high-weights Inv-loop μ-loop
-mul-high-weights c = ?
+mul-high-weights c = omega arith
 
--- src/force.rt:48:9
 element-write-high-weights-3 : tie.Need-element-write-high-weights-3 Inv-loop μ-loop
-element-write-high-weights-3 c = ?
+element-write-high-weights-3 c = omega arith
 
--- src/force.rt:49:53
 add-low-weight : tie.Need-add-low-weight Inv-loop μ-loop
-add-low-weight c = ?
+add-low-weight c = omega arith
 
--- src/force.rt:49:44
 mul-low-weight : tie.Need-mul-low-weight Inv-loop μ-loop
-mul-low-weight c = ?
+mul-low-weight c = omega arith
 
--- src/force.rt:49:44
 element-copy-out-low-weight : tie.Need-element-copy-out-low-weight Inv-loop μ-loop
-element-copy-out-low-weight c = ?
+element-copy-out-low-weight c = omega arith
 
--- src/force.rt:49:30
 low-weight-requires : tie.Need-low-weight-requires Inv-loop μ-loop
-low-weight-requires c κs = ?
+low-weight-requires c κs = tt
 
--- src/force.rt:49:21
 add-low-weights : tie.Need-add-low-weights Inv-loop μ-loop
-add-low-weights c = ?
+add-low-weights c = omega arith
 
--- src/force.rt:49:9
 mul-low-weights : tie.Need-mul-low-weights Inv-loop μ-loop
-mul-low-weights c = ?
+mul-low-weights c = omega arith
 
--- src/force.rt:49:9
 element-write-low-weights-3 : tie.Need-element-write-low-weights-3 Inv-loop μ-loop
-element-write-low-weights-3 c = ?
+element-write-low-weights-3 c = omega arith
 
--- src/force.rt:50:9
 add-k : tie.Need-add-k Inv-loop μ-loop
-add-k c = ?
+add-k c = omega arith
 
--- src/force.rt:46:5
 loop-less : tie.Need-loop-less Inv-loop μ-loop
-loop-less c = ?
+loop-less c = omega arith
 
--- src/force.rt:46:5
 loop-again : tie.Need-loop-again Inv-loop μ-loop
-loop-again c = ?
+loop-again c =
+    let at = c .before .before .before .before .before .before .before .before in
+    let inv = at .loop .inv in
+    let few = at .before .pre .0 .0 in
+    let marked = mark (c .before .before .before .before) in (
+      omega arith,
+      written-next _ (inv .1) (omega arith) refl (c .before .before .high-weight .ensures ∙ rw marked),
+      written-next _ (inv .2) (omega arith) refl (c .low-weight .ensures ∙ rw marked),
+    )
 
--- src/force.rt:35:1
 returns : tie.Need-returns Inv-loop μ-loop
-returns c = ?
+returns c =
+    let inv = c .before .loop .inv in
+    let e : c .before .loop .k ≡ c .before .before .args .n = omega arith in
+    (rw (← e) (written-all _ (inv .1) refl), rw (← e) (written-all _ (inv .2) refl))
 
 pub in-force-spec : {M : Type 1} → statement M
 in-force-spec =

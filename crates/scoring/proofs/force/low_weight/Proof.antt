@@ -1,19 +1,20 @@
+-- `low_weight` meets its contract, test by test. Assumes nothing.
+use borrow.Author.Tests.{eq-eqb, ne-eqb}
+use Rattle.scoring.specs.Passes.{lowInForce}
 use Rattle.scoring.proofs.force.low_weight.Statement.{statement}
 use Rattle.scoring.proofs.force.low_weight.Tie as tie
-use Rattle.scoring.proofs.force.low_weight.Reads as reads
-use Rattle.scoring.proofs.force.low_weight.Lts as lts
 
--- src/force.rt:72:9
 returns : tie.Need-returns
-returns c = ?
+unfolding lowInForce
+returns c = simp (eq-eqb _ _ (c .if1 .taken))
 
--- src/force.rt:68:1
 returns-2 : tie.Need-returns-2
-returns-2 c = ?
+unfolding lowInForce
+returns-2 c = simp (ne-eqb _ _ (c .before .if1 .left), eq-eqb _ _ (c .if2 .taken))
 
--- src/force.rt:68:1
 returns-3 : tie.Need-returns-3
-returns-3 c = ?
+unfolding lowInForce
+returns-3 c = simp (ne-eqb _ _ (c .before .if1 .left), ne-eqb _ _ (c .if2 .left))
 
 pub low-weight-spec : {M : Type 1} → statement M
 low-weight-spec = tie.close (tie.spec returns returns-2 returns-3)
