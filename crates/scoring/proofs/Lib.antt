@@ -1,2 +1,3 @@
 -- Laws about the values of nodes.
 pub mod Values
+pub mod Passing
