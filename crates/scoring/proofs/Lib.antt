@@ -3,3 +3,4 @@ pub mod Arcing
 pub mod Values
 pub mod FullPlans
 pub mod Forcing
+pub mod Passing

@@ -5,7 +5,7 @@ use mathlib.Core.Bool.{Bool, true, false, cond, _||_}
 use mathlib.Core.List.{List, [], _∷_, _++_}
 use lib.ListN.{length, getD, drop}
 use lib.Dec.{eqb}
-use Rattle.diagram.specs.Table.{Table, Record, chance, sequence, tableOf, variableCount, isChoice, scaleOf}
+use Rattle.diagram.specs.Table.{Table, Record, chance, sequence, tableOf, variableCount, isChoice, choiceCount, scaleOf}
 use Rattle.diagram.proofs.Truth.{Formed}
 use Rattle.diagram.proofs.FirstVariable.{Shares}
 use Rattle.reading.specs.Nodes.{column}
@@ -95,3 +95,5 @@ pub record Marked (t : Table) (p : List ℕ) (n : ℕ) (ps hs ls ha la ms : List
   pub highArcs : (k : ℕ) → k < n → getD ha (k + 2) 0 ≡ highArc t k
   pub lowArcs : (k : ℕ) → k < n → getD la (k + 2) 0 ≡ lowArc t k
   pub marks : ms ≡ marksByPosition t p
+  pub plan : length p ≡ choiceCount (t .variables)
+  pub legal : (i : ℕ) → getD p i 0 ≤ 2

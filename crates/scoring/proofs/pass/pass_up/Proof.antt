@@ -1,63 +1,80 @@
+-- `pass_up` meets its contract. The loop's invariant: the values of the ends and of the first k records' nodes are written over the array.
+-- Assumes nothing.
+use Prim.Native.Nat.{_+_, _-_, _≤_}
+use native.Mathlib.Omega.{arith}
+use mathlib.Core.Path.{_≡_, _∙_}
+use lib.ListN.{length, length-set}
+use borrow.Author.Needs.{needs}
+use Rattle.scoring.specs.Passes.{over, Arcs, passUp, nodeValue}
+use Rattle.scoring.proofs.Passing.{pass-start, pass-next, pass-end, node-value-over}
 use Rattle.scoring.proofs.pass.pass_up.Statement.{statement}
 use Rattle.scoring.proofs.pass.pass_up.Tie as tie
-use Rattle.scoring.proofs.pass.pass_up.Reads as reads
-use Rattle.scoring.proofs.pass.pass_up.Lts as lts
-use Rattle.diagram.proofs.numbering.Node.of_record.Reads as of-record-reads
-use Rattle.scoring.proofs.pass.node_value.Reads as node-value-reads
 
 abbrev Inv-loop : tie.InvT-loop
-Inv-loop n high low high-weights low-weights values₀ k₀ values k = ?
+Inv-loop n high low high-weights low-weights values₀ k₀ values k =
+    (k ≤ n) × (length values ≡ 256) × (values ≡ over (passUp (record { high = high; low = low; highWeights = high-weights; lowWeights = low-weights }) k) values₀)
 
 abbrev μ-loop : tie.MeasureT-loop
-μ-loop n high low high-weights low-weights values₀ k₀ values k = ?
+μ-loop n high low high-weights low-weights values₀ k₀ values k = n - k
 
--- src/pass.rt:15:5
+abbrev arcs : tie.Start Inv-loop μ-loop → Arcs
+arcs c = record { high = c .args .high .now; low = c .args .low .now; highWeights = c .args .high-weights .now; lowWeights = c .args .low-weights .now }
+
+-- the value that a turn asks for is the pass's next
+next-value : (c : tie.After-of-record Inv-loop μ-loop) → nodeValue (arcs (c .before .before .before .before)) (c .of-record .result .0) (c .before .before .before .loop .values) ≡ nodeValue (arcs (c .before .before .before .before)) (c .before .before .before .loop .k + 2) (passUp (arcs (c .before .before .before .before)) (c .before .before .before .loop .k))
+next-value c =
+    rw (c .of-record .ensures, c .before .before .before .loop .inv .2)
+    (node-value-over (c .before .before .before .before .pre .0 .1) _ (c .before .before .before .loop .k) (c .before .before .loop-test .taken))
+
 element-write-values : tie.Need-element-write-values Inv-loop μ-loop
-element-write-values c = ?
+element-write-values c = search needs
 
--- src/pass.rt:16:5
 element-write-values-2 : tie.Need-element-write-values-2 Inv-loop μ-loop
-element-write-values-2 c = ?
+element-write-values-2 c = search needs
 
--- src/pass.rt:18:5
 loop-holds : tie.Need-loop-holds Inv-loop μ-loop
-loop-holds c = ?
+loop-holds c = (omega arith, simp length-set (c .pre .1), pass-start (arcs c) (c .args .values .now) (c .pre .1))
 
--- src/pass.rt:19:74
 of-record-requires : tie.Need-of-record-requires Inv-loop μ-loop
-of-record-requires c κs = ?
+of-record-requires c κs = search needs
 
--- src/pass.rt:19:13
 node-value-requires : tie.Need-node-value-requires Inv-loop μ-loop
-node-value-requires c κs = ?
+node-value-requires c κs =
+    rw (next-value c) (c .before .before .before .before .pre .0 .1 .fits (c .before .before .before .loop .k) (c .before .before .loop-test .taken))
 
--- src/pass.rt:20:16
 add-values : tie.Need-add-values Inv-loop μ-loop
-add-values c = ?
+add-values c = search needs
 
--- src/pass.rt:20:9
 mul-values : tie.Need-mul-values Inv-loop μ-loop
-mul-values c = ?
+mul-values c = search needs
 
--- src/pass.rt:20:9
 element-write-values-3 : tie.Need-element-write-values-3 Inv-loop μ-loop
-element-write-values-3 c = ?
+element-write-values-3 c = search needs
 
--- src/pass.rt:21:9
 add-k : tie.Need-add-k Inv-loop μ-loop
-add-k c = ?
+add-k c = search needs
 
--- src/pass.rt:18:5
 loop-less : tie.Need-loop-less Inv-loop μ-loop
-loop-less c = ?
+loop-less c = search needs
 
--- src/pass.rt:18:5
 loop-again : tie.Need-loop-again Inv-loop μ-loop
-loop-again c = ?
+loop-again c =
+    let start = c .before .before .before .before .before in
+    let inv = c .before .before .before .before .loop .inv in
+    let k = c .before .before .before .before .loop .k in
+    let few = start .pre .0 .0 in
+    let size = start .pre .1 in (
+      omega arith,
+      simp length-set (inv .1),
+      rw (inv .2) (pass-next (arcs start) _ k (c .node-value .result) (simp length-set (omega arith)) (rw (c .node-value .ensures) (next-value (c .before)))),
+    )
 
--- src/pass.rt:10:1
 returns : tie.Need-returns Inv-loop μ-loop
-returns c = ?
+returns c =
+    let start = c .before .before in
+    let inv = c .before .loop .inv in
+    let e : c .before .loop .k ≡ start .args .n = omega arith in
+    (rw e at (inv .2)) ∙ pass-end (arcs start) (start .args .values .now) (start .args .n)
 
 pub pass-up-spec : {M : Type 1} → statement M
 pass-up-spec =
