@@ -18,6 +18,7 @@ impl Line {
     pub const SERVICE: u8 = 1;
 
     pub const FILE: u8 = 2;
+
     pub const PLAN: u8 = 3;
 
     pub fn new() -> Line {

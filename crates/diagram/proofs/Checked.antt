@@ -21,6 +21,11 @@ module _ {A : Type 0} (c : Check) (cs : List Check) (answer : List ℕ → Outco
   unfolding checked
   checked-stops i e = rw (e, checked) refl
 
+-- no check is left
+pub checked-end : {A : Type 0} (answer : List ℕ → Outcome A) (s : List ℕ) → checked [] answer s ≡ answer s
+unfolding checked
+checked-end answer s = refl
+
 -- ---------------------------------------------------------------------------
 -- Lists of checks
 

@@ -2,17 +2,22 @@
 -- Assumes nothing.
 use Prim.Native.Nat.{ℕ}
 use native.Mathlib.Omega.{arith}
-use mathlib.Core.Path.{_≡_, refl, sym, _∙_}
+use mathlib.Core.Path.{_≡_, refl, ap, sym, _∙_}
 use mathlib.Core.Option.{Option, none, some}
 use mathlib.Core.List.{List, _∷_}
 use Rattle.diagram.specs.Checks.{Check}
-use Rattle.diagram.specs.Services.{Outcome, refused, answered, checked, reading, Reading}
-use Rattle.diagram.proofs.Checked.{checked-passes, checked-stops}
+use Rattle.diagram.specs.Table.{tableOf, choiceCount}
+use Rattle.diagram.specs.Services.{Outcome, refused, answered, checked, reading, readOutcome, Reading}
+use Rattle.diagram.proofs.Checked.{checked-passes, checked-stops, Passed, read-passed, read-reading}
+use Rattle.diagram.specs.declared.refusal.Refusal.{Refusal}
+use Rattle.reading.specs.declared.answer.Summary.{Summary}
+use Rattle.reading.specs.declared.answer.ReadAnswer.{ReadAnswer}
+use Rattle.reading.specs.declared.answer.ReadAnswer.the-variants.{Refused}
 use Rattle.reading.specs.declared.answer.Fault.{Fault}
 use Rattle.reading.specs.declared.answer.Fault.the-variants.{At, Nowhere}
 use Rattle.reading.specs.declared.answer.Bounded.{Bounded}
 use Rattle.reading.specs.declared.answer.Bounded.the-variants.{Within, Above}
-use Rattle.reading.specs.Answer.{faultOf, boundedBy}
+use Rattle.reading.specs.Answer.{outcomeOf, faultOf, boundedBy}
 
 -- ---------------------------------------------------------------------------
 -- The enums
@@ -57,3 +62,25 @@ module _ (c : Check) (cs : List Check) (s : List ℕ) where
 
   pub stops : (i : ℕ) → c .fault s ≡ some i → refused (c .number) i ≡ readFrom (c ∷ cs) s
   stops i e = sym (checked-stops c cs _ s i e)
+
+-- ---------------------------------------------------------------------------
+-- What the answer of `read` tells its callers
+
+module _ (s : List ℕ) {r : ReadAnswer} (promise : outcomeOf r ≡ readOutcome s) where
+  pub refused-read : (x : Refusal) → r ≡ Refused x → readOutcome s ≡ refused (x .number) (x .place)
+  unfolding outcomeOf
+  refused-read x e = sym promise ∙ rw e
+
+  table-read-as : (t : Summary) → r ≡ ReadAnswer.Table t → readOutcome s ≡ answered (record { variables = t .variables; records = t .records; choices = t .choices; scale = t .scale })
+  unfolding outcomeOf
+  table-read-as t e = sym promise ∙ rw e
+
+  pub table-read : (t : Summary) → r ≡ ReadAnswer.Table t → readOutcome s ≡ answered (reading s)
+  table-read t e = table-read-as t e ∙ ap answered (read-reading s _ (table-read-as t e))
+
+  pub table-passed : (t : Summary) → r ≡ ReadAnswer.Table t → Passed s
+  table-passed t e = read-passed s _ (table-read-as t e)
+
+  pub table-choices : (t : Summary) → r ≡ ReadAnswer.Table t → t .choices ≡ choiceCount (tableOf s .variables)
+  unfolding reading
+  table-choices t e = ap (λ (x : Reading). x .choices) (read-reading s _ (table-read-as t e))

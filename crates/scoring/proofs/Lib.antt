@@ -4,3 +4,5 @@ pub mod Values
 pub mod FullPlans
 pub mod Forcing
 pub mod Passing
+pub mod Bounding
+pub mod Requests

@@ -11,7 +11,7 @@ use reading::position_of;
 use reading::record_count;
 ghost use mathlib.Core.Path.{_≡_};
 ghost use mathlib.Core.List.{List};
-ghost use Prim.Native.Nat.{ℕ, _+_, _/_, _<_};
+ghost use Prim.Native.Nat.{ℕ, _+_, _/_, _≤_, _<_};
 ghost use lib.ListN.{length, getD};
 ghost use Rattle.diagram.specs.Table.{Table, sequence, tableOf, choiceCount};
 ghost use Rattle.diagram.specs.Plans.{openTaken, upperBound};
@@ -19,9 +19,10 @@ ghost use Rattle.diagram.proofs.Checked.{Passed};
 ghost use Rattle.scoring.specs.Value.{value};
 ghost use Rattle.scoring.specs.Passes.{over, Marked};
 
-// The score with all open lines taken, of a file that has passed every check and a plan that check 21 lets through.
+// The score with all open lines taken, of a file that has passed every check and a plan that checks 21 and 22 let through.
 pub fn upper_bound(file: &[u8], plan: &[u8]) -> u64
-    requires { ⌜ Passed (now file) × (length (now plan) ≡ choiceCount (tableOf (now file) .variables)) ⌝ }
+    requires passed { ⌜ Passed (now file) ⌝ }
+    requires plan { ⌜ (length (now plan) ≡ choiceCount (tableOf (now file) .variables)) × ((i : ℕ) → getD (now plan) i 0 ≤ 2) ⌝ }
     ensures { λ r. ⌜ r ≡ upperBound (tableOf (now (file .entry))) (now (plan .entry)) ⌝ }
 {
     let n = record_count(file);

@@ -1,33 +1,25 @@
+-- `root_weight` meets its contract. Assumes nothing.
 use borrow.Author.Needs.{needs}
 use Rattle.scoring.proofs.bound.root_weight.Statement.{statement}
 use Rattle.scoring.proofs.bound.root_weight.Tie as tie
-use Rattle.scoring.proofs.bound.root_weight.Reads as reads
-use Rattle.scoring.proofs.bound.root_weight.Lts as lts
-use Rattle.diagram.proofs.numbering.Position.number.Reads as number-reads
 
--- src/bound.rt:60:9
 number-requires : tie.Need-number-requires
 number-requires c κs = search needs
 
--- src/bound.rt:61:5
 element-copy-out-result : tie.Need-element-copy-out-result
 element-copy-out-result c = search needs
 
--- src/bound.rt:61:19
 mul-result : tie.Need-mul-result
 mul-result c = search needs
 
--- src/bound.rt:61:19
 element-copy-out-result-2 : tie.Need-element-copy-out-result-2
 element-copy-out-result-2 c = search needs
 
--- src/bound.rt:61:5
 div-result : tie.Need-div-result
-div-result c = ?
+div-result c = rw (c .before .before .number .ensures) (c .before .before .before .pre .1)
 
--- src/bound.rt:56:1
 returns : tie.Need-returns
-returns c = ?
+returns c = rw (c .before .before .number .ensures)
 
 pub root-weight-spec : {M : Type 1} → statement M
 root-weight-spec =

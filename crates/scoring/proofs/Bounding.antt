@@ -1,0 +1,101 @@
+-- From the arrays to the bound: they hold the table and the plan, and the root's value times the product of b before it is the score with all open
+-- lines taken.
+-- Assumes of the file that no check finds it at fault (`Passed`).
+use Prim.Native.Nat.{ℕ, zero, suc, _+_, _-_, _*_, _/_, _≤_, _<_, _^_}
+use native.Mathlib.Nat.{zero-add}
+use native.Mathlib.Omega.{arith}
+use mathlib.Core.Path.{_≡_, refl, ap, sym, _∙_}
+use mathlib.Core.List.{List, [], _∷_}
+use lib.ListN.{length, getD, drop, List·getD-append}
+use Rattle.diagram.specs.Table.{Record, Table, sequence, tableOf, variableCount, recordCount, root, choiceCount, scaleOf, scale}
+use Rattle.diagram.specs.Score.{score}
+use Rattle.diagram.specs.Plans.{openTaken, upperBound}
+use Rattle.diagram.specs.Checks.{positionOf}
+use Rattle.diagram.proofs.Places.{sequence-length, sequence-at}
+use Rattle.diagram.proofs.Checked.{Passed}
+use Rattle.diagram.proofs.Locality.{position-le}
+use Rattle.diagram.proofs.FirstVariable.{score-le-scale, scale-positive}
+use Rattle.reading.specs.Nodes.{column}
+use Rattle.reading.proofs.Counting.{variables-length}
+use Rattle.reading.proofs.Accepted.{passed-formed, passed-shares, passed-scale, passed-variables, passed-records, records-length}
+use Rattle.scoring.specs.Value.{place, value, gap, highArc, lowArc}
+use Rattle.scoring.specs.Passes.{over, byNode, products, marksByPosition, Marked}
+use Rattle.scoring.proofs.Values.{shares-drop, score-value}
+use Rattle.scoring.proofs.Arcing.{over-at, products-at, column-position, suffix-gap}
+use Rattle.scoring.proofs.FullPlans.{Legal}
+
+-- a cell that a list written over the front has
+over-sequence-at : (f : ℕ → ℕ) (old : List ℕ) (n k : ℕ) → k < n → getD (over (sequence f 0 n) old) k 0 ≡ f k
+unfolding over
+over-sequence-at f old n k h =
+    let long = sequence-length f 0 n in
+    rw (List·getD-append (sequence f 0 n) (drop (length (sequence f 0 n)) old) 0 k (omega arith), sequence-at f 0 n k 0 h, zero-add)
+
+module _ {s : List ℕ} (passed : Passed s) (p : List ℕ) (n : ℕ) (size : n ≡ recordCount s) where
+  pub records-size : n ≡ length (tableOf s .records)
+  records-size = size ∙ sym (records-length s)
+
+  -- the arrays hold the table and the plan
+  pub marked : {ps hs ls ha la ms : List ℕ} (W W′ : List ℕ) → length p ≡ choiceCount (tableOf s .variables) → Legal p → ps ≡ column (variableCount s) (λ (r : Record). r .position) (tableOf s .records) → hs ≡ column 0 (λ (r : Record). r .hi) (tableOf s .records) → ls ≡ column 0 (λ (r : Record). r .lo) (tableOf s .records) → ha ≡ over (byNode (highArc (tableOf s)) n) W → la ≡ over (byNode (lowArc (tableOf s)) n) W′ → ms ≡ marksByPosition (tableOf s) p → Marked (tableOf s) p n ps hs ls ha la ms
+  unfolding scale
+  marked W W′ long legal eps ehs els eha ela ems =
+      let variables = passed-variables passed in
+      let records = passed-records passed in
+      record {
+        formed = passed-formed passed;
+        shares = passed-shares passed;
+        bounded = passed-scale passed;
+        few = omega arith;
+        size = (records-size, omega (arith, records-size));
+        positions = rw (variables-length s) eps;
+        high = ehs;
+        low = els;
+        highArcs = λ k l. rw eha (over-at (highArc (tableOf s)) W n k l);
+        lowArcs = λ k l. rw ela (over-at (lowArc (tableOf s)) W′ n k l);
+        marks = ems;
+        plan = long;
+        legal = legal;
+      }
+
+  pub records-few : (1 ≤ n) × (n - 1 < 254)
+  records-few =
+      let records = passed-records passed in
+      (omega (arith, records-size), omega (arith, records-size))
+
+  -- the root's number and position, as the code has them
+  module _ {ps pr : List ℕ} {r q : ℕ} (eps : ps ≡ column (variableCount s) (λ (r : Record). r .position) (tableOf s .records)) (epr : pr ≡ products (tableOf s)) (er : r ≡ n - 1 + 2) (eq : q ≡ getD ps r 0) where
+    root-number : r ≡ root (tableOf s)
+    unfolding root
+    root-number = omega (arith, records-size, records-few .0)
+
+    root-position : q ≡ place (tableOf s) (root (tableOf s))
+    unfolding place
+    root-position =
+        let few : r < 256 = omega (arith, records-few) in
+        eq ∙ rw eps (column-position (variableCount s) (tableOf s .records) r few ∙ rw (root-number, variables-length s) refl)
+
+    root-before : q ≤ length (tableOf s .variables)
+    unfolding place
+    root-before = rw root-position (position-le (passed-formed passed) (root (tableOf s)))
+
+    cell : (x : ℕ) → x < 64 → getD pr x 0 ≡ scaleOf (drop x (tableOf s .variables))
+    cell x l = rw epr (products-at (tableOf s) x l)
+
+    pub root-within : (q < 64) × (0 < getD pr q 0)
+    root-within =
+        let few : q < 64 = omega (arith, root-before, passed-variables passed) in
+        (few, rw (cell q few) (scale-positive (shares-drop (passed-shares passed) q)))
+
+    pub root-bound : {vs : List ℕ} (W : List ℕ) {x y : ℕ} → vs ≡ over (sequence (value (tableOf s) (openTaken p)) 0 (n + 2)) W → x ≡ getD pr 0 0 / getD pr q 0 → y ≡ getD vs r 0 → x * y ≡ upperBound (tableOf s) p
+    unfolding upperBound score
+    root-bound W {x} {y} evs ex ey =
+        let few = root-within .0 in
+        let weight : x ≡ gap (tableOf s) 0 (place (tableOf s) (root (tableOf s))) = ex ∙ rw (cell 0 (omega arith), cell q few, suffix-gap (tableOf s) 0 q (passed-shares passed) (omega arith) root-before, root-position) refl in
+        let last : r < n + 2 = omega (arith, records-few) in
+        let value-root : y ≡ value (tableOf s) (openTaken p) (root (tableOf s)) = ey ∙ rw (evs, over-sequence-at (value (tableOf s) (openTaken p)) W (n + 2) r last, root-number) refl in
+        rw (weight, value-root) (sym (score-value (tableOf s) (passed-formed passed) (passed-shares passed) (openTaken p) (root (tableOf s))))
+
+-- a bound fits
+pub bound-fits : {s : List ℕ} → Passed s → (p : List ℕ) → upperBound (tableOf s) p ≤ 2 ^ 56
+unfolding upperBound
+bound-fits {s} passed p = omega (arith, score-le-scale (tableOf s) (passed-shares passed) (openTaken p), passed-scale passed)
