@@ -42,7 +42,7 @@ fn step(line: Line, b: u8, file: &mut [u8], plan: &mut [u8]) -> Line {
         return line.labelled(b);
     }
     if b == b'\n' {
-        run(line, file, plan);
+        end(line, file, plan);
         return Line::new();
     }
     if line.part == Line::SERVICE {
@@ -54,15 +54,18 @@ fn step(line: Line, b: u8, file: &mut [u8], plan: &mut [u8]) -> Line {
     line.mark(b, plan)
 }
 
-// Runs the case of a line.
-fn run(line: Line, file: &[u8], plan: &[u8]) {
+// Runs the case of a line on the parts of the buffers that it has filled.
+fn end(line: Line, file: &[u8], plan: &[u8]) {
     let n = line.length(file);
     let m = line.plan_length(plan);
-    if line.service == b'r' {
-        show::reading(reading::read(&file[..n]));
-    } else if line.service == b's' {
-        show::score(scoring::score(&file[..n], &plan[..m]));
-    } else {
-        show::text(b" no such service\n");
+    run(line.service, &file[..n], &plan[..m]);
+}
+
+// Runs a service, and writes what it answers.
+fn run(service: u8, file: &[u8], plan: &[u8]) {
+    match service {
+        b'r' => show::reading(reading::read(file)),
+        b's' => show::score(scoring::score(file, plan)),
+        _ => show::text(b" no such service\n"),
     }
 }
