@@ -25,7 +25,8 @@ def reads(label, data):
 
 
 def scores(label, data, plan):
-    data = bytes_of(data)
+    if not isinstance(data, bytes):
+        data = bytes_of(data)
     text = " ".join(data[i:i + 4].hex() for i in range(0, len(data), 4))
     marks = "".join("%x" % m for m in plan)
     lines.append(f"{label}: s {text} | {marks}".rstrip())
@@ -235,7 +236,14 @@ for i in (1, 2):
     scores(f"2^56, a chain {i}", table(big, [record(7, 1, 0)] + [record(7 - k, k + 1, 0) for k in range(1, 7)] + [record(0, 8, 0)]), [i])
 
 note("Refusals of the score, after those of the file")
-scores("file refused first", put(A, 8, 0), [0])
+for label, data in (
+    ("11", bytes_of(A)[:35]), ("12", put(A, 0, 0x11002001)), ("13", A[:-1]), ("14", put(A, 1, 0)), ("14 later", put(A, 4, 0)),
+    ("15", table([choice(i) for i in range(21)], last)), ("16", table([chance(i, 1, 1000) for i in range(6)], last)),
+    ("17", put(A, 5, 0)), ("17 later", put(A, 8, 0)), ("18", table(two, [record(0, 0, 1), record(0, 1, 0)])),
+    ("18 later", table(two, [record(1, 1, 0), record(0, 0, 1)])),
+):
+    scores(f"file refused with {label}", data, [1, 2])
+scores("file refused before the plan", put(A, 8, 0), [0])
 scores("not monotone and no plan", put(B, 4, 0x40000002), [])
 scores("plan too short", A, [1])
 scores("plan empty", A, [])

@@ -6,7 +6,7 @@ use native.Mathlib.Omega.{arith}
 use mathlib.Core.Path.{_≡_, refl, ap, sym, _∙_}
 use mathlib.Core.Bool.{Bool, true, false}
 use mathlib.Core.Option.{Option, none, some}
-use mathlib.Core.List.{List, [], _∷_}
+use mathlib.Core.List.{List, [], _∷_, _++_}
 use lib.ListN.{length, getD, take}
 use Rattle.diagram.specs.Table.{sequence}
 use Rattle.diagram.specs.Checks.{firstPlace}
@@ -31,6 +31,14 @@ module _ {A : Type 0} (f : ℕ → A) where
   sequence-past i zero k d h = refl
   sequence-past i (suc n) zero d h = absurd (omega arith)
   sequence-past i (suc n) (suc k) d h = sequence-past (suc i) n k d (omega arith)
+
+  -- one element more at the end
+  pub sequence-snoc : (i n : ℕ) → sequence f i n ++ (f (i + n) ∷ []) ≡ sequence f i (suc n)
+  unfolding sequence
+  sequence-snoc i zero = ap (λ (x : ℕ). f x ∷ []) (omega arith)
+  sequence-snoc i (suc n) =
+      let on : i + suc n ≡ suc i + n = omega arith in
+      ap (λ (l : List A). f i ∷ l) (rw on (sequence-snoc (suc i) n))
 
   pub take-sequence : (i n k : ℕ) → k ≤ n → take k (sequence f i n) ≡ sequence f i k
   unfolding sequence

@@ -9,18 +9,12 @@ use mathlib.Core.List.{List, [], _∷_, _++_}
 use lib.ListN.{length, set, take, length-set}
 use lib.Seq.{take-all, take-suc-set}
 use Rattle.diagram.specs.Table.{sequence}
+use Rattle.diagram.proofs.Places.{sequence-snoc}
 
 -- the two ends' cells and those of the first k records
 pub record Filled (end : ℕ) (f : ℕ → ℕ) (cells : List ℕ) (k : ℕ) : Type 0 where
   pub size : length cells ≡ 256
   pub front : take (k + 2) cells ≡ end ∷ end ∷ sequence f 0 k
-
-pub sequence-snoc : (f : ℕ → ℕ) (i n : ℕ) → sequence f i n ++ (f (i + n) ∷ []) ≡ sequence f i (suc n)
-unfolding sequence
-sequence-snoc f i zero = ap (λ (x : ℕ). f x ∷ []) (omega arith)
-sequence-snoc f i (suc n) =
-    let e : i + suc n ≡ suc i + n = omega arith in
-    ap (λ (l : List ℕ). f i ∷ l) (rw e (sequence-snoc f (suc i) n))
 
 pub fill-ends : {end : ℕ} {f : ℕ → ℕ} {cells : List ℕ} (before : List ℕ) (x : ℕ) → length before ≡ 256 → cells ≡ set (set before 0 x) 1 x → x ≡ end → Filled end f cells 0
 unfolding sequence

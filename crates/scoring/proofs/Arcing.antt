@@ -19,11 +19,11 @@ use Rattle.diagram.proofs.Locality.{position-le, position-less}
 use Rattle.diagram.proofs.FirstVariable.{Shares, no-shares, choice-shares, chance-shares, scale-positive}
 use Rattle.reading.specs.Nodes.{column}
 use Rattle.reading.proofs.Counting.{variables-length}
-use Rattle.reading.proofs.Columns.{sequence-snoc}
 use Rattle.reading.proofs.Pairing.{column-at, variable-at}
 use Rattle.reading.proofs.Accepted.{passed-variables, passed-formed, passed-shares, passed-scale}
 use Rattle.scoring.specs.Value.{place, gap, variableAt, highShare, lowShare, highArc, lowArc}
 use Rattle.scoring.specs.Passes.{over, byNode, products, Decoded}
+use Rattle.scoring.proofs.Over.{over-ends, byNode-length, over-byNode}
 use Rattle.scoring.proofs.Values.{gap-scale, shares-drop, shares-sum}
 
 -- ---------------------------------------------------------------------------
@@ -34,35 +34,6 @@ pub record Written (f : ℕ → ℕ) (old cells : List ℕ) (k : ℕ) : Type 0 w
   pub room : length old ≡ 256
   pub size : length cells ≡ 256
   pub whole : cells ≡ over (byNode f k) old
-
-module _ (f : ℕ → ℕ) where
-  byNode-length : (n : ℕ) → length (byNode f n) ≡ n + 2
-  unfolding byNode
-  byNode-length n = omega (arith, sequence-length f 0 n)
-
-  byNode-snoc : (n : ℕ) → byNode f n ++ (f n ∷ []) ≡ byNode f (suc n)
-  unfolding byNode
-  byNode-snoc n = ap (λ (l : List ℕ). 0 ∷ 0 ∷ l) (rw zero-add at (sequence-snoc f 0 n))
-
-  over-snoc : (old : List ℕ) (k : ℕ) → k + 2 < length old → set (over (byNode f k) old) (k + 2) (f k) ≡ over (byNode f (k + 1)) old
-  unfolding over
-  over-snoc old k h =
-      let on : k + 1 + 2 ≡ suc (k + 2) = omega arith in
-      let here = set-at (byNode f k) (getD old (k + 2) 0) (drop (suc (k + 2)) old) (f k) (k + 2) (byNode-length k) in
-      rw (byNode-length, byNode-length, on, drop-cons old (k + 2) 0 h, here, add-one, ← byNode-snoc k)
-      (sym (append-snoc (byNode f k) (f k) (drop (suc (k + 2)) old)))
-
-  -- the cell of record k, once it is written
-  pub over-at : (old : List ℕ) (n k : ℕ) → k < n → getD (over (byNode f n) old) (k + 2) 0 ≡ f k
-  unfolding over byNode
-  over-at old n k h =
-      let at : k + 2 ≡ suc (suc k) = omega arith in
-      let long = sequence-length f 0 n in
-      rw (at, List·getD-append (sequence f 0 n) (drop (suc (suc (length (sequence f 0 n)))) old) 0 k (omega arith), sequence-at f 0 n k 0 h, zero-add)
-
-pub over-length : (new old : List ℕ) → length new ≤ length old → length (over new old) ≡ length old
-unfolding over
-over-length new old h = simp (length-append, length-drop) (omega arith)
 
 -- the ends' cells are written before the loop
 pub written-start : {f : ℕ → ℕ} {cells : List ℕ} (old : List ℕ) → length old ≡ 256 → cells ≡ set (set old 0 0) 1 0 → Written f cells cells 0
@@ -81,14 +52,13 @@ written-next {f} {old} {k} x w h e y =
     record {
       room = w .room;
       size = rw e (simp length-set size);
-      whole = rw (e, y, w .whole) (over-snoc f old k (omega arith));
+      whole = rw (e, y, w .whole) (over-byNode f old k (omega arith));
     }
 
 -- what the ends' cells held before they were written does not matter
 pub written-all : {f : ℕ → ℕ} {old cells : List ℕ} {n : ℕ} (first : List ℕ) → Written f old cells n → old ≡ set (set first 0 0) 1 0 → cells ≡ over (byNode f n) first
-unfolding over
 written-all {f} {n} first w e =
-    rw (w .whole, e, byNode-length, drop-set-lt (n + 2) (set first 0 0) 1 0 (omega arith), drop-set-lt (n + 2) first 0 0 (omega arith))
+    rw (w .whole, e) (over-ends (byNode f n) first 0 0 (omega (arith, byNode-length f n)))
 
 -- ---------------------------------------------------------------------------
 -- A word's variable

@@ -21,15 +21,9 @@ use Rattle.reading.proofs.Accepted.{passed-formed, passed-shares, passed-scale,
 use Rattle.scoring.specs.Value.{place, value, gap, highArc, lowArc}
 use Rattle.scoring.specs.Passes.{over, byNode, products, marksByPosition, Marked}
 use Rattle.scoring.proofs.Values.{shares-drop, score-value}
-use Rattle.scoring.proofs.Arcing.{over-at, products-at, column-position, suffix-gap}
+use Rattle.scoring.proofs.Over.{over-at, over-sequence-at}
+use Rattle.scoring.proofs.Arcing.{products-at, column-position, suffix-gap}
 use Rattle.scoring.proofs.FullPlans.{Legal}
-
--- a cell that a list written over the front has
-over-sequence-at : (f : ℕ → ℕ) (old : List ℕ) (n k : ℕ) → k < n → getD (over (sequence f 0 n) old) k 0 ≡ f k
-unfolding over
-over-sequence-at f old n k h =
-    let long = sequence-length f 0 n in
-    rw (List·getD-append (sequence f 0 n) (drop (length (sequence f 0 n)) old) 0 k (omega arith), sequence-at f 0 n k 0 h, zero-add)
 
 module _ {s : List ℕ} (passed : Passed s) (p : List ℕ) (n : ℕ) (size : n ≡ recordCount s) where
   pub records-size : n ≡ length (tableOf s .records)

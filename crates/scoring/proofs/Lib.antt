@@ -1,4 +1,5 @@
 -- Laws about the values of nodes and the arrays that hold them.
+pub mod Over
 pub mod Arcing
 pub mod Values
 pub mod FullPlans

@@ -17,32 +17,15 @@ use borrow.Author.Tests.{ne-eqb}
 use Rattle.diagram.specs.Table.{Variable, choice, chance, Table, Record, sequence, recordAt, isChoice, choiceCount, scaleOf}
 use Rattle.diagram.specs.Score.{isTaken}
 use Rattle.diagram.specs.Plans.{openTaken}
-use Rattle.diagram.proofs.Places.{sequence-length, sequence-at, sequence-past}
+use Rattle.diagram.proofs.Places.{sequence-length, sequence-at, sequence-past, sequence-snoc}
 use Rattle.diagram.proofs.Locality.{position-less}
 use Rattle.diagram.proofs.FirstVariable.{Shares, no-shares, choice-shares, chance-shares}
 use Rattle.reading.specs.Nodes.{column}
+use Rattle.reading.proofs.Pairing.{column-at}
 use Rattle.scoring.specs.Value.{place, marksFrom, value, variableAt, markAt, highShare, lowShare, highWeight, lowWeight, highArc, lowArc}
 use Rattle.scoring.specs.Passes.{over, byNode, markOf, marksByPosition, highInForce, lowInForce, markAtNode, Arcs, nodeValue, passUp, Fits, Marked}
+use Rattle.scoring.proofs.Over.{over-getD, over-next, over-ends, over-at}
 use Rattle.scoring.proofs.Values.{value-le, value-false, value-true, value-step}
-
--- ---------------------------------------------------------------------------
--- A list written over another, element after element
-
-getD-over : (new old : List ℕ) (i : ℕ) → i < length new → getD (over new old) i 0 ≡ getD new i 0
-unfolding over
-getD-over new old i h = List·getD-append new _ 0 i h
-
-over-next : (new old : List ℕ) (n x : ℕ) → length new ≡ n → n < length old → set (over new old) n x ≡ over (new ++ x ∷ []) old
-unfolding over
-over-next new old n x e h =
-    let on : length (new ++ x ∷ []) ≡ suc n = rw (length-append, e) (omega arith) in
-    rw (on, e, drop-cons old n 0 h, set-at new (getD old n 0) (drop (suc n) old) x n e, append-snoc)
-
--- what stood at the first two places does not matter
-over-ends : (new old : List ℕ) (x y : ℕ) → 2 ≤ length new → over new (set (set old 0 x) 1 y) ≡ over new old
-unfolding over
-over-ends new old x y h =
-    rw (drop-set-lt (length new) (set old 0 x) 1 y (omega arith), drop-set-lt (length new) old 0 x (omega arith))
 
 -- ---------------------------------------------------------------------------
 -- The turns of a pass
@@ -72,27 +55,10 @@ node-value-over {a} f old k h =
     let size = pass-length a k in
     let high = f .highLess k h in
     let low = f .lowLess k h in
-    rw (getD-over (passUp a k) old (getD (a .high) (k + 2) 0) (omega arith), getD-over (passUp a k) old (getD (a .low) (k + 2) 0) (omega arith))
+    rw (over-getD (passUp a k) old (getD (a .high) (k + 2) 0) (omega arith), over-getD (passUp a k) old (getD (a .low) (k + 2) 0) (omega arith))
 
 -- ---------------------------------------------------------------------------
 -- Lists by node number
-
-sequence-last : (f : ℕ → ℕ) (i n m : ℕ) → i + n ≡ m → sequence f i n ++ f m ∷ [] ≡ sequence f i (suc n)
-unfolding sequence
-sequence-last f i zero m e = ap (λ (x : ℕ). f x ∷ []) (omega arith)
-sequence-last f i (suc n) m e = ap (λ (l : List ℕ). f i ∷ l) (sequence-last f (suc i) n m (omega arith))
-
-by-node-at : (f : ℕ → ℕ) (n : ℕ) (old : List ℕ) (k : ℕ) → k < n → getD (over (byNode f n) old) (k + 2) 0 ≡ f k
-unfolding byNode
-by-node-at f n old k h =
-    let two : k + 2 ≡ suc (suc k) = omega arith in
-    getD-over (0 ∷ 0 ∷ sequence f 0 n) old (k + 2) (omega (arith, sequence-length f 0 n)) ∙ rw (two, sequence-at f 0 n k 0 h) (ap f (zero-add k))
-
-column-at : (end : ℕ) (part : Record → ℕ) (rs : List Record) (k : ℕ) → k < 254 → getD (column end part rs) (k + 2) 0 ≡ part (recordAt rs k)
-unfolding column
-column-at end part rs k h =
-    let two : k + 2 ≡ suc (suc k) = omega arith in
-    rw (two, sequence-at (λ i. part (recordAt rs i)) 0 254 k 0 h) (ap (λ (i : ℕ). part (recordAt rs i)) (zero-add k))
 
 -- a bound of the ends and of every record's part is one of every cell
 column-less : (end : ℕ) (part : Record → ℕ) (rs : List Record) (b : ℕ) → end < b → ((k : ℕ) → part (recordAt rs k) < b) → (i : ℕ) → getD (column end part rs) i 0 < b
@@ -214,8 +180,8 @@ module _ {t : Table} {p : List ℕ} {n : ℕ} {ps hs ls ha la ms : List ℕ} (m 
         let hi-less = m .formed .hiLess k in
         let lo-less = m .formed .loLess k in
         rw (
-          by-node-at (λ k. highInForce (markAtNode ps ms k) (getD ha (k + 2) 0)) n W k h,
-          by-node-at (λ k. lowInForce (markAtNode ps ms k) (getD la (k + 2) 0)) n W′ k h,
+          over-at (λ k. highInForce (markAtNode ps ms k) (getD ha (k + 2) 0)) W n k h,
+          over-at (λ k. lowInForce (markAtNode ps ms k) (getD la (k + 2) 0)) W′ n k h,
           high-in-force k h,
           low-in-force k h,
           m .high,
@@ -234,7 +200,7 @@ module _ {t : Table} {p : List ℕ} {n : ℕ} {ps hs ls ha la ms : List ℕ} (m 
     passed-to zero h = rw (value-false, value-true) refl
     passed-to (suc k) h =
         let on : suc k + 2 ≡ suc (k + 2) = omega arith in
-        rw (passed-to k (omega arith), node-value-is k (omega arith), on) (sequence-last (value t (openTaken p)) 0 (k + 2) (k + 2) (zero-add (k + 2)))
+        rw (passed-to k (omega arith), node-value-is k (omega arith), on) (rw zero-add at (sequence-snoc (value t (openTaken p)) 0 (k + 2)))
 
     pub passed-values : passUp (arcsInForce n ps hs ls ha la ms W W′) n ≡ sequence (value t (openTaken p)) 0 (n + 2)
     passed-values = passed-to n (le-refl n)
