@@ -5,12 +5,12 @@ use Prim.Native.Nat.{ℕ, zero, suc, _+_, _-_, _≤_}
 use native.Mathlib.Nat.{le-refl, mul-le-mul-left, sub-add-cancel}
 use native.Mathlib.Omega.{arith}
 use mathlib.Core.Path.{_≡_, refl, ap, sym, _∙_}
-use mathlib.Core.Bool.{Bool, true, false, cond, not, _&&_, _||_, false≢true, and-assoc}
-use mathlib.Core.List.{List, [], _∷_, _++_, map, tail}
+use mathlib.Core.Bool.{Bool, true, false, cond, false≢true}
+use mathlib.Core.List.{List, [], _∷_, tail}
 use borrow.Author.Tests.{eqb-true}
 use lib.ListN.{length, getD, set}
 use Rattle.diagram.specs.Table.{Variable, choice, chance, Table, recordAt, root, isChoice}
-use Rattle.diagram.specs.Score.{isTaken, truth, total, scoreFrom, score, assignments, every, implies}
+use Rattle.diagram.specs.Score.{isTaken, truth, total, scoreFrom, score, every, implies}
 use Rattle.diagram.specs.Plans.{completions, openTaken, isOpen, leaves, upperBound, derivative}
 use Rattle.diagram.specs.Checks.{isMonotoneAt}
 use Rattle.diagram.proofs.Every.{both, implied, every-append, every-map, every-split, each-assignment}

@@ -6,7 +6,7 @@ use mathlib.Core.Option.{Option, none, some}
 use lib.ListN.{length, getD, take}
 use lib.Dec.{eqb, ltb, leb}
 use Rattle.diagram.specs.Words.{wordAt, kind, fieldP, fieldQ, fieldR}
-use Rattle.diagram.specs.Table.{Variable, choice, chance, Record, Table, variableCount, recordCount, tableOf, recordAt, isChoice, choiceCount, scaleOf}
+use Rattle.diagram.specs.Table.{chance, Record, Table, variableCount, recordCount, tableOf, recordAt, isChoice, choiceCount, scaleOf}
 use Rattle.diagram.specs.Score.{implies}
 
 -- Place 0 where a fault is there, and no place where it is not

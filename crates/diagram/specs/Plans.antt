@@ -1,7 +1,7 @@
 -- Document 01, "Scores, drops and passing": plans and their completions, the top, the drops, passing and forced lines.
 -- A plan is a list of marks, one a choice: 0 open, 1 taken, 2 left.
 use Prim.Native.Nat.{ℕ, zero, suc, _+_, _-_, _*_}
-use mathlib.Core.Bool.{Bool, true, false, cond, not, _&&_, _||_}
+use mathlib.Core.Bool.{Bool, cond, not, _&&_}
 use mathlib.Core.List.{List, [], _∷_, _++_, map}
 use lib.ListN.{length, getD, set}
 use lib.Dec.{eqb, ltb}

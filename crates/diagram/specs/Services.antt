@@ -2,7 +2,7 @@
 use Prim.Native.Nat.{ℕ}
 use mathlib.Core.Bool.{cond}
 use mathlib.Core.List.{List, [], _∷_}
-use mathlib.Core.Option.{Option, none, some}
+use mathlib.Core.Option.{none, some}
 use lib.ListN.{length}
 use Rattle.diagram.specs.Table.{Table, tableOf, variableCount, recordCount, choiceCount, scale}
 use Rattle.diagram.specs.Score.{score}

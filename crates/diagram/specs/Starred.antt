@@ -10,7 +10,7 @@ use Rattle.diagram.specs.Plans.{completions, openTaken, openCount, taken
 use Rattle.diagram.specs.Ranking.{takesFirst, ranksBefore, better, firstRanked, isCandidate, select, bestPlan}
 use Rattle.diagram.specs.Visits.{beaten, goesBack, lowestOpen, visit, visited, visitCount}
 use Rattle.diagram.specs.Checks.{placeZero, firstPlace, jobFault, lengthFault, isHeading, headingFault, countFault, isVariableWord, variableFault, choiceFault, scaleFault, positionOf, isChild, isRecordWord, recordFault, isMonotoneAt, monotoneFault, planLengthFault, planMarkFault, fullPlanFault, percentFault, budgetFault, bufferFault, jobChecks, tableChecks, scoreChecks, sweepChecks, filterChecks, searchChecks}
-use Rattle.diagram.specs.Services.{Outcome, refused, answered, Reading, Sweeping, Filtering, Searching}
+use Rattle.diagram.specs.Services.{Outcome, refused, answered}
 use Rattle.diagram.specs.Services.{checked, written, reading, readOutcome, scoreOutcome, sweepOutcome, sweepBuffer, filtering, filterOutcome, filterBuffer, searching, searchOutcome, searchBuffer}
 use Rattle.diagram.specs.Printout.{digits, decimal, refusedWord, choicesWord, scaleWord, kitsWord, scoreWord, visitsWord, takeWord, leftWord, line, markLines, refusalText, planText, searchText, jobOutcome, programOutcome, printout}
 

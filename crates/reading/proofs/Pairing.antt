@@ -15,7 +15,7 @@ use Rattle.diagram.specs.Words.{wordAt}
 use Rattle.diagram.specs.Table.{chance, Record, recordAt, tableOf, variableOf, isChoice, variableCount, recordCount}
 use Rattle.diagram.specs.Score.{walk, truth, implies}
 use Rattle.diagram.specs.Checks.{positionOf, isMonotoneAt}
-use Rattle.diagram.proofs.Places.{sequence-length, sequence-at, sequence-past}
+use Rattle.diagram.proofs.Places.{sequence-at, sequence-past}
 use Rattle.diagram.proofs.Truth.{Formed}
 use Rattle.diagram.proofs.Locality.{position-le, position-less}
 use Rattle.diagram.proofs.Implication.{hiOf, loOf, follow, follow-le, follow-less, implies-split}

@@ -6,9 +6,9 @@ use native.Mathlib.Numerals.{add-one}
 use native.Mathlib.Omega.{arith}
 use mathlib.Core.Path.{_≡_, refl, ap, sym, _∙_}
 use mathlib.Core.Logic.{⊎-elim}
-use mathlib.Core.List.{List, [], _∷_, _++_}
-use lib.ListN.{length, getD, set, drop, replicate, length-append, length-drop, length-set, List·getD-append, getD-replicate}
-use lib.Seq.{set-at, drop-cons, append-snoc, drop-set-lt, getD-set-same, getD-set-other, ext-getD}
+use mathlib.Core.List.{List, [], _∷_}
+use lib.ListN.{length, getD, set, drop, replicate, length-set, getD-replicate}
+use lib.Seq.{drop-cons, getD-set-same, getD-set-other, ext-getD}
 use borrow.Author.Tests.{eq-eqb, ne-eqb}
 use Rattle.diagram.specs.Words.{wordAt, kind, fieldQ, fieldR}
 use Rattle.diagram.specs.Table.{Variable, choice, chance, Record, Table, sequence, variableOf, recordAt, scaleOf, scale, tableOf}

@@ -1,17 +1,14 @@
 -- From the arrays to the bound: they hold the table and the plan, and the root's value times the product of b before it is the score with all open
 -- lines taken.
 -- Assumes of the file that no check finds it at fault (`Passed`).
-use Prim.Native.Nat.{ℕ, zero, suc, _+_, _-_, _*_, _/_, _≤_, _<_, _^_}
-use native.Mathlib.Nat.{zero-add}
+use Prim.Native.Nat.{ℕ, _+_, _-_, _*_, _/_, _≤_, _<_, _^_}
 use native.Mathlib.Omega.{arith}
-use mathlib.Core.Path.{_≡_, refl, ap, sym, _∙_}
-use mathlib.Core.List.{List, [], _∷_}
-use lib.ListN.{length, getD, drop, List·getD-append}
-use Rattle.diagram.specs.Table.{Record, Table, sequence, tableOf, variableCount, recordCount, root, choiceCount, scaleOf, scale}
+use mathlib.Core.Path.{_≡_, refl, sym, _∙_}
+use mathlib.Core.List.{List}
+use lib.ListN.{length, getD, drop}
+use Rattle.diagram.specs.Table.{Record, sequence, tableOf, variableCount, recordCount, root, choiceCount, scaleOf, scale}
 use Rattle.diagram.specs.Score.{score}
 use Rattle.diagram.specs.Plans.{openTaken, upperBound}
-use Rattle.diagram.specs.Checks.{positionOf}
-use Rattle.diagram.proofs.Places.{sequence-length, sequence-at}
 use Rattle.diagram.proofs.Checked.{Passed}
 use Rattle.diagram.proofs.Locality.{position-le}
 use Rattle.diagram.proofs.FirstVariable.{score-le-scale, scale-positive}

@@ -6,18 +6,18 @@ use native.Mathlib.Nat.{le-refl, zero-add, mul-le-mul-right}
 use native.Mathlib.Decide.{decLt}
 use native.Mathlib.Numerals.{add-one}
 use native.Mathlib.Omega.{arith}
-use mathlib.Core.Path.{_≡_, refl, ap, sym, _∙_}
+use mathlib.Core.Path.{_≡_, refl, sym}
 use mathlib.Core.Bool.{Bool, true, false, cond, not, _||_, false≢true}
 use mathlib.Core.Logic.{by-cases}
-use mathlib.Core.List.{List, [], _∷_, _++_}
-use lib.ListN.{length, getD, set, drop, take, length-append, List·getD-append}
-use lib.Seq.{drop-cons, append-snoc, set-at, drop-set-lt, getD-drop}
+use mathlib.Core.List.{List, [], _∷_}
+use lib.ListN.{length, getD, set, drop, take, length-append}
+use lib.Seq.{getD-drop}
 use lib.Dec.{eqb}
 use borrow.Author.Tests.{ne-eqb}
 use Rattle.diagram.specs.Table.{Variable, choice, chance, Table, Record, sequence, recordAt, isChoice, choiceCount, scaleOf}
 use Rattle.diagram.specs.Score.{isTaken}
 use Rattle.diagram.specs.Plans.{openTaken}
-use Rattle.diagram.proofs.Places.{sequence-length, sequence-at, sequence-past, sequence-snoc}
+use Rattle.diagram.proofs.Places.{sequence-at, sequence-past, sequence-snoc}
 use Rattle.diagram.proofs.Locality.{position-less}
 use Rattle.diagram.proofs.FirstVariable.{Shares, no-shares, choice-shares, chance-shares}
 use Rattle.reading.specs.Nodes.{column}

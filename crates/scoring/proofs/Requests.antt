@@ -8,9 +8,9 @@ use lib.ListN.{length}
 use borrow.Author.Tests.{eq-eqb, ne-eqb}
 use Rattle.diagram.specs.Table.{tableOf, choiceCount}
 use Rattle.diagram.specs.Score.{score}
-use Rattle.diagram.specs.Plans.{openTaken, upperBound}
+use Rattle.diagram.specs.Plans.{upperBound}
 use Rattle.diagram.specs.Checks.{placeZero, planLengthFault, fullPlanFault, scoreChecks}
-use Rattle.diagram.specs.Services.{Outcome, refused, answered, reading, readOutcome, scoreOutcome}
+use Rattle.diagram.specs.Services.{refused, answered, reading, readOutcome, scoreOutcome}
 use Rattle.diagram.proofs.Checked.{checked-passes, checked-stops, checked-end, read-refuses, read-answers}
 use Rattle.scoring.proofs.FullPlans.{full-closed, openTaken-same}
 

@@ -1,7 +1,7 @@
 -- The value of a node: a score counted from the node's own position on. Source document 000 has values and arc weights as v and u, (6.9) to (6.11);
 -- here both are whole numbers, and a variable that an arc skips counts in the arc.
 use Prim.Native.Nat.{ℕ, _+_, _-_, _*_}
-use mathlib.Core.Bool.{Bool, true, false, cond}
+use mathlib.Core.Bool.{false, cond}
 use mathlib.Core.List.{List, _++_}
 use lib.ListN.{length, getD, take, drop, replicate}
 use Rattle.diagram.specs.Table.{Variable, choice, chance, Table, recordAt, choiceCount, scaleOf}

@@ -5,7 +5,6 @@ use mathlib.Core.Option.{none}
 use mathlib.Core.List.{[]}
 use lib.ListN.{length}
 use Rattle.diagram.specs.Checks.{fullPlanFault}
-use Prim.Native.Nat.{ℕ}
 use Rattle.diagram.specs.Table.{tableOf, choiceCount}
 use Rattle.diagram.specs.Services.{answered, reading, readOutcome}
 use Rattle.diagram.proofs.Checked.{Passed}

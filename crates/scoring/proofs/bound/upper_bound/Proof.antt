@@ -1,6 +1,6 @@
 -- `upper_bound` meets its contract: the arrays hold the table and the plan, and the root's value times the product of b before it is the bound.
 -- Assumes nothing.
-use Prim.Native.Nat.{ℕ, _*_}
+use Prim.Native.Nat.{_*_}
 use native.Mathlib.Omega.{arith}
 use mathlib.Core.Path.{_≡_, refl}
 use Rattle.diagram.specs.Table.{tableOf}
