@@ -13,7 +13,8 @@ ghost use Rattle.diagram.specs.Words.{wordAt, fieldP, fieldQ, fieldR};
 ghost use Rattle.diagram.specs.Table.{Record, tableOf, variableCount};
 ghost use Rattle.reading.specs.Nodes.{column, Shaped};
 
-// Copies the records of a file that the checks 11 to 17 let through, and marks the ends' position.
+// Copies the records of a file that the checks 11 to 17 let through, and marks the ends' position. The lengths are the
+// arrays' own.
 pub fn decode(file: &[u8], positions: &mut [u8; 256], high: &mut [u8; 256], low: &mut [u8; 256])
     requires { ⌜ Shaped (now file) ⌝ }
     requires sizes { ⌜ (length (now positions) ≡ 256) × (length (now high) ≡ 256) × (length (now low) ≡ 256) ⌝ }

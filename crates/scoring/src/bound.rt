@@ -59,7 +59,8 @@ pub fn upper_bound(file: &[u8], plan: &[u8]) -> u64
     root_weight(&products, position_of(&positions, root)) * value_of(&values, root)
 }
 
-// The values of all nodes under the marks in force.
+// The values of all nodes under the marks in force, an open line counting as taken. The arrays hold a table and a plan, as
+// `decode`, `arc_weights` and `marks_by_position` leave them.
 pub fn values_of(
     n: usize,
     positions: &[u8; 256],

@@ -31,7 +31,8 @@ pub fn marks_by_position(file: &[u8], plan: &[u8]) -> [u8; 64]
     marks
 }
 
-// The weights of the arcs in force of the first n records. An open line counts as taken.
+// The weights of the arcs in force of the first n records. An open line counts as taken. The positions are a table's, as
+// `decode` leaves them, and so below 64.
 pub fn in_force(
     n: usize,
     positions: &[u8; 256],

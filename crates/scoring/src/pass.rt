@@ -6,7 +6,8 @@ ghost use Prim.Native.Nat.{_≤_, _<_, _^_};
 ghost use lib.ListN.{length};
 ghost use Rattle.scoring.specs.Passes.{over, Arcs, Fits, passUp, nodeValue};
 
-// The values of the ends and of the first n records' nodes, each from its children's by two products and a sum.
+// The values of the ends and of the first n records' nodes, each from its children's by two products and a sum. That every
+// value fits, the weights in force of a table show: no value is above its share of B, which is at most 2^56.
 pub fn pass_up(
     n: usize,
     high: &[u8; 256],
