@@ -6,7 +6,7 @@ use mathlib.Core.Path.{_≡_, refl, ap, sym, _∙_}
 use mathlib.Core.Option.{Option, none, some}
 use mathlib.Core.List.{List, _∷_}
 use Rattle.diagram.specs.Checks.{Check}
-use Rattle.diagram.specs.Table.{tableOf, choiceCount}
+use Rattle.diagram.specs.Table.{tableOf, variableCount, recordCount, choiceCount, scaleOf, scale}
 use Rattle.diagram.specs.Services.{Outcome, refused, answered, checked, reading, readOutcome, Reading}
 use Rattle.diagram.proofs.Checked.{checked-passes, checked-stops, Passed, read-passed, read-reading}
 use Rattle.diagram.specs.declared.refusal.Refusal.{Refusal}
@@ -62,6 +62,11 @@ module _ (c : Check) (cs : List Check) (s : List ℕ) where
 
   pub stops : (i : ℕ) → c .fault s ≡ some i → refused (c .number) i ≡ readFrom (c ∷ cs) s
   stops i e = sym (checked-stops c cs _ s i e)
+
+-- the four numbers of an accepted file
+pub summary-is : (s : List ℕ) {v n c x : ℕ} → v ≡ variableCount s → n ≡ recordCount s → c ≡ choiceCount (tableOf s .variables) → x ≡ scaleOf (tableOf s .variables) → answered (record { variables = v; records = n; choices = c; scale = x }) ≡ answered (reading s)
+unfolding reading scale
+summary-is s ev en ec ex = rw (ev, en, ec, ex)
 
 -- ---------------------------------------------------------------------------
 -- What the answer of `read` tells its callers

@@ -290,6 +290,13 @@ module _ {s ps hs ls memo : List ℕ} (h : Held s ps hs ls memo) where
       let before = position-less (shaped-formed s (h .shaped)) k in
       rw (held-implies, variable-at s _ before, held-cells k l)
 
+  -- the same at the numbers that the code has read: a record that is no choice's, and one whose children are decided
+  pub held-chance : (k : ℕ) → k < recordCount s → {node at : ℕ} {test : Bool} → node ≡ k + 2 → at ≡ getD ps node 0 → test ≡ isChoice (variableOf (wordAt s (1 + at))) → test ≡ false → true ≡ isMonotoneAt (tableOf s) k
+  held-chance k l en ea et left = rw (held-test k l, ← en, ← ea, ← et, left)
+
+  pub held-choice : (k : ℕ) → k < recordCount s → {node at lo hi : ℕ} {test r : Bool} → node ≡ k + 2 → at ≡ getD ps node 0 → test ≡ isChoice (variableOf (wordAt s (1 + at))) → test ≡ true → lo ≡ getD ls node 0 → hi ≡ getD hs node 0 → r ≡ implies (endOf ps) (recordsOf ps hs ls) lo hi → r ≡ isMonotoneAt (tableOf s) k
+  held-choice k l en ea et taken elo ehi er = rw (held-test k l, ← en, ← ea, ← et, taken, ← elo, ← ehi) er
+
   -- the arrays with another memo that is right
   pub held-memo : {memo′ : List ℕ} → Right (endOf ps) (recordsOf ps hs ls) memo′ → Held s ps hs ls memo′
   held-memo r = record { shaped = h .shaped; positions = h .positions; high = h .high; low = h .low; right = r }

@@ -5,11 +5,10 @@ use mathlib.Core.Path.{_≡_, sym, _∙_}
 use mathlib.Core.Option.{none}
 use mathlib.Core.List.{List}
 use lib.ListN.{drop}
-use Rattle.diagram.specs.Table.{scale}
 use Rattle.diagram.specs.Checks.{Check, tableChecks, lengthFault, headingFault, countFault, variableFault, choiceFault, scaleFault, recordFault, monotoneFault}
-use Rattle.diagram.specs.Services.{checked, reading, readOutcome}
+use Rattle.diagram.specs.Services.{checked, readOutcome}
 use Rattle.reading.specs.Answer.{outcomeOf}
-use Rattle.reading.proofs.Outcomes.{fault-none, fault-some, bounded-none, bounded-some, readFrom, goes-on, stops}
+use Rattle.reading.proofs.Outcomes.{fault-none, fault-some, bounded-none, bounded-some, summary-is, readFrom, goes-on, stops}
 use borrow.Author.Needs.{needs}
 use Rattle.reading.proofs.read.Statement.{statement}
 use Rattle.reading.proofs.read.Tie as tie
@@ -241,7 +240,7 @@ record-count-requires : tie.Need-record-count-requires
 record-count-requires c κs = search needs
 
 returns-9 : tie.Need-returns-9
-unfolding outcomeOf reading scale checked tableChecks
+unfolding outcomeOf checked tableChecks
 returns-9 c =
     let p18 = c .before .before in
     let p17 = p18 .before .before .before in
@@ -250,7 +249,7 @@ returns-9 c =
     let s = file-18 p18 in
     let choices = bounded-none _ _ _ (p15 .before .before .before .choices .ensures) (p15 .before .choices2 .given .1) .1 in
     let product = bounded-none _ _ _ (p16 .before .before .before .scale .ensures) (p16 .before .scale2 .given .1) .1 in
-    rw (c .before .variable-count .ensures .0, c .record-count .ensures .0, choices, product) (sym (past-18 p18))
+    summary-is s (c .before .variable-count .ensures .0) (c .record-count .ensures .0) choices product ∙ sym (past-18 p18)
 
 pub read-spec : {M : Type 1} → statement M
 read-spec =

@@ -1,8 +1,9 @@
 -- `is_monotone_at` meets its contract: the arrays have check 18's test of a record.
 -- Assumes nothing.
 use native.Mathlib.Omega.{arith}
+use borrow.Author.Tests.{not-true, not-false}
 use Rattle.reading.proofs.Shape.{heading-records}
-use Rattle.reading.proofs.Pairing.{held-test, held-pairs}
+use Rattle.reading.proofs.Pairing.{held-chance, held-choice, held-pairs}
 use borrow.Author.Needs.{needs}
 use Rattle.reading.proofs.monotone.is_monotone_at.Statement.{statement}
 use Rattle.reading.proofs.monotone.is_monotone_at.Tie as tie
@@ -22,7 +23,7 @@ returns : tie.Need-returns
 returns c =
     let start = c .before .before .before .before .before in
     let held = start .pre .0 in
-    (rw (held-test held (start .args .k) (start .pre .1), ← c .before .before .before .of-record .ensures, ← c .before .before .position-of .ensures, ← c .before .is-choice .ensures, c .if1 .taken), held .right)
+    (held-chance held (start .args .k) (start .pre .1) (c .before .before .before .of-record .ensures) (c .before .before .position-of .ensures) (c .before .is-choice .ensures) (not-true _ (c .if1 .taken)), held .right)
 
 child-of-requires : tie.Need-child-of-requires
 child-of-requires c κs = search needs
@@ -37,7 +38,7 @@ returns-2 : tie.Need-returns-2
 returns-2 c =
     let start = c .before .before .before .before .before .before .before .before .before in
     let held = start .pre .0 in
-    (rw (held-test held (start .args .k) (start .pre .1), ← c .before .before .before .before .before .before .before .of-record .ensures, ← c .before .before .before .before .before .before .position-of .ensures, ← c .before .before .before .before .before .is-choice .ensures, c .before .before .before .before .if1 .left, ← c .before .before .child-of .ensures, ← c .before .child-of2 .ensures) (c .implied .ensures .answer), c .implied .ensures .right)
+    (held-choice held (start .args .k) (start .pre .1) (c .before .before .before .before .before .before .before .of-record .ensures) (c .before .before .before .before .before .before .position-of .ensures) (c .before .before .before .before .before .is-choice .ensures) (not-false _ (c .before .before .before .before .if1 .left)) (c .before .before .child-of .ensures) (c .before .child-of2 .ensures) (c .implied .ensures .answer), c .implied .ensures .right)
 
 pub is-monotone-at-spec : {M : Type 1} → statement M
 is-monotone-at-spec =

@@ -1,8 +1,19 @@
 -- `arc` meets its contract: the product fits by what it requires. Assumes nothing.
+use Prim.Native.Nat.{ℕ, _+_, _*_, _/_, _≤_, _<_, _^_}
+use mathlib.Core.Path.{_≡_}
+use mathlib.Core.List.{List}
 use native.Mathlib.Omega.{arith}
+use lib.ListN.{getD}
 use borrow.Author.Needs.{needs}
 use Rattle.scoring.proofs.arcs.arc.Statement.{statement}
 use Rattle.scoring.proofs.arcs.arc.Tie as tie
+
+-- the weight, at the numbers that the code has read
+weight-is : (qs : List ℕ) (share : ℕ) {i j from to : ℕ} → i ≡ from → j ≡ to → share * (getD qs (i + 1) 0 / getD qs j 0) ≡ share * (getD qs (from + 1) 0 / getD qs to 0)
+weight-is qs share e f = rw (e, f)
+
+weight-fits : (qs : List ℕ) (share : ℕ) {i j from to : ℕ} → i ≡ from → j ≡ to → share * (getD qs (from + 1) 0 / getD qs to 0) ≤ 2 ^ 56 → share * (getD qs (i + 1) 0 / getD qs j 0) < 2 ^ 64
+weight-fits qs share e f h = rw (weight-is qs share e f) (omega arith)
 
 number-requires : tie.Need-number-requires
 number-requires c κs = search needs
@@ -29,10 +40,14 @@ div-result : tie.Need-div-result
 div-result c = rw (c .before .before .number2 .ensures) (c .before .before .before .before .pre .2)
 
 mul-result-3 : tie.Need-mul-result-3
-mul-result-3 c = rw (c .before .before .before .number .ensures, c .before .before .number2 .ensures) (omega arith)
+mul-result-3 c =
+    let start = c .before .before .before .before in
+    record { fits = weight-fits (start .args .products .now) (start .args .share) (c .before .before .before .number .ensures) (c .before .before .number2 .ensures) (start .pre .3) }
 
 returns : tie.Need-returns
-returns c = rw (c .before .before .before .number .ensures, c .before .before .number2 .ensures)
+returns c =
+    let start = c .before .before .before .before in
+    weight-is (start .args .products .now) (start .args .share) (c .before .before .before .number .ensures) (c .before .before .number2 .ensures)
 
 pub arc-spec : {M : Type 1} → statement M
 arc-spec =
