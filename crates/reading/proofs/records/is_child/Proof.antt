@@ -1,11 +1,20 @@
 -- `is_child` meets its contract: its two tests are the definition's. Assumes nothing.
-use Prim.Native.Nat.{_+_}
+use Prim.Native.Nat.{ℕ, _+_, _<_}
+use mathlib.Core.Path.{_≡_}
+use mathlib.Core.List.{List}
+use lib.Dec.{ltb}
 use native.Mathlib.Omega.{arith}
 use borrow.Author.Needs.{needs}
 use borrow.Author.Tests.{lt-ltb, le-ltb}
-use Rattle.diagram.specs.Checks.{isChild}
+use Rattle.diagram.specs.Table.{Record}
+use Rattle.diagram.specs.Checks.{positionOf, isChild}
 use Rattle.reading.proofs.records.is_child.Statement.{statement}
 use Rattle.reading.proofs.records.is_child.Tie as tie
+
+-- the test of a child n that is before record k, at the numbers that the code has read
+tested : (v : ℕ) (rs : List Record) (k : ℕ) {p n x node q y : ℕ} → n < k + 2 → x ≡ p → node ≡ n → q ≡ positionOf v rs node → y ≡ q → ltb x y ≡ isChild v rs k p n
+unfolding isChild
+tested v rs k {n} h ex en eq ey = rw (lt-ltb n (k + 2) h, ex, ey, eq, en)
 
 add-if1 : tie.Need-add-if1
 add-if1 c = search needs
@@ -30,10 +39,9 @@ number-requires-2 : tie.Need-number-requires-2
 number-requires-2 c κs = search needs
 
 returns-2 : tie.Need-returns-2
-unfolding isChild
 returns-2 c =
     let a = c .before .before .before .before .before .before in
-    simp (lt-ltb (a .args .child) (a .args .k + 2) (omega arith)) (cc)
+    tested _ _ (a .args .k) (omega arith) (c .before .before .number .ensures) (c .before .before .before .new .ensures) (c .before .position .ensures) (c .number2 .ensures)
 
 pub is-child-spec : {M : Type 1} → statement M
 is-child-spec =
