@@ -3,10 +3,11 @@
 // A line is a label, a colon, a letter for the service (r reads, s scores), the file's bytes in hexadecimal and, after a
 // bar, the plan's marks, a digit each; spaces count for nothing. The label is written back, and then the answer. A line
 // without a colon is written back as it is.
-mod line;
-mod show;
-
-use line::Line;
+use diagram::Refusal;
+use reading::ReadAnswer;
+use scoring::ScoreAnswer;
+ghost use Prim.Native.Nat.{_≤_};
+ghost use lib.ListN.{length};
 
 fn main() {
     let mut file = [0u8; 1400];
@@ -38,7 +39,7 @@ fn feed(line: Line, bytes: &[u8], file: &mut [u8], plan: &mut [u8]) -> Line {
 // Takes one byte of the input. The end of a line runs its case.
 fn step(line: Line, b: u8, file: &mut [u8], plan: &mut [u8]) -> Line {
     if line.part == Line::LABEL {
-        show::text(&[b]);
+        show_text(&[b]);
         return line.labelled(b);
     }
     if b == b'\n' {
@@ -64,8 +65,168 @@ fn end(line: Line, file: &[u8], plan: &[u8]) {
 // Runs a service, and writes what it answers.
 fn run(service: u8, file: &[u8], plan: &[u8]) {
     match service {
-        b'r' => show::reading(reading::read(file)),
-        b's' => show::score(scoring::score(file, plan)),
-        _ => show::text(b" no such service\n"),
+        b'r' => show_reading(reading::read(file)),
+        b's' => show_score(scoring::score(file, plan)),
+        _ => show_text(b" no such service\n"),
     }
+}
+
+// A line of the input, as far as it has come.
+struct Line {
+    part: u8,
+    service: u8,
+    // How many bytes the file has, and the upper half of the next one, 16 where there is none yet.
+    count: usize,
+    half: u8,
+    // How many marks the plan has.
+    marks: usize,
+}
+
+impl Line {
+    const LABEL: u8 = 0;
+
+    const SERVICE: u8 = 1;
+
+    const FILE: u8 = 2;
+
+    const PLAN: u8 = 3;
+
+    fn new() -> Line {
+        Line {
+            part: Line::LABEL,
+            service: 0,
+            count: 0,
+            half: 16,
+            marks: 0,
+        }
+    }
+
+    // A byte of the label.
+    fn labelled(mut self, b: u8) -> Line {
+        if b == b':' {
+            self.part = Line::SERVICE;
+        }
+        self
+    }
+
+    // The letter of the service.
+    fn named(mut self, b: u8) -> Line {
+        if b != b' ' {
+            self.service = b;
+            self.part = Line::FILE;
+        }
+        self
+    }
+
+    // A digit of the file, a space, or the bar before the plan.
+    fn digit(mut self, b: u8, file: &mut [u8]) -> Line {
+        if b == b'|' {
+            self.part = Line::PLAN;
+            return self;
+        }
+        let d = value(b);
+        if 15 < d {
+            return self;
+        }
+        let at = self.count;
+        let half = self.half;
+        if 15 < half {
+            self.half = d;
+            return self;
+        }
+        if at < file.len() {
+            file[at] = half * 16 + d;
+            self.count = at + 1;
+        }
+        self.half = 16;
+        self
+    }
+
+    // A mark of the plan, or a space.
+    fn mark(mut self, b: u8, plan: &mut [u8]) -> Line {
+        let d = value(b);
+        let at = self.marks;
+        if 15 < d {
+            return self;
+        }
+        if at < plan.len() {
+            plan[at] = d;
+            self.marks = at + 1;
+        }
+        self
+    }
+
+    // How many bytes of the file there are.
+    fn length(self, file: &[u8]) -> usize
+        ensures { λ r. ⌜ r ≤ length (now (file .entry)) ⌝ }
+    {
+        least(self.count, file)
+    }
+
+    // How many marks of the plan there are.
+    fn plan_length(self, plan: &[u8]) -> usize
+        ensures { λ r. ⌜ r ≤ length (now (plan .entry)) ⌝ }
+    {
+        least(self.marks, plan)
+    }
+}
+
+// A count, cut to a buffer's length.
+fn least(n: usize, buffer: &[u8]) -> usize
+    ensures { λ r. ⌜ r ≤ length (now (buffer .entry)) ⌝ }
+{
+    if n < buffer.len() { n } else { buffer.len() }
+}
+
+// The value of a hexadecimal digit, or 16.
+fn value(b: u8) -> u8 {
+    match b {
+        b'0'..=b'9' => b - b'0',
+        b'a'..=b'f' => b - b'a' + 10,
+        b'A'..=b'F' => b - b'A' + 10,
+        _ => 16,
+    }
+}
+
+// Bytes on standard output.
+fn show_text(bytes: &[u8]) {
+    io::write_all(libc::STDOUT_FILENO, bytes);
+}
+
+// A space and a number.
+fn show_number(n: u64) {
+    show_text(b" ");
+    io::print_decimal(libc::STDOUT_FILENO, n);
+}
+
+fn show_reading(answer: ReadAnswer) {
+    match answer {
+        ReadAnswer::Table(t) => {
+            show_text(b" table");
+            show_number(t.variables as u64);
+            show_number(t.records as u64);
+            show_number(t.choices as u64);
+            show_number(t.scale);
+            show_text(b"\n");
+        }
+        ReadAnswer::Refused(r) => show_refusal(r),
+    }
+}
+
+fn show_score(answer: ScoreAnswer) {
+    match answer {
+        ScoreAnswer::Score(x) => {
+            show_text(b" score");
+            show_number(x);
+            show_text(b"\n");
+        }
+        ScoreAnswer::Refused(r) => show_refusal(r),
+    }
+}
+
+fn show_refusal(r: Refusal) {
+    show_text(b" refused");
+    show_number(r.number as u64);
+    show_number(r.place as u64);
+    show_text(b"\n");
 }

@@ -149,6 +149,7 @@ tableChecks =
     ∷ record { number = 18; fault = monotoneFault }
     ∷ []
 
+-- The score: file and plan, which has to be full
 unfoldable pub scoreChecks : (plan : List ℕ) → List Check
 scoreChecks p =
     tableChecks
@@ -156,6 +157,7 @@ scoreChecks p =
     ∷ record { number = 22; fault = fullPlanFault p }
     ∷ []
 
+-- The sweep: file, plan and the size of the drops buffer
 unfoldable pub sweepChecks : (plan : List ℕ) → (size : ℕ) → List Check
 sweepChecks p size =
     tableChecks
@@ -164,6 +166,7 @@ sweepChecks p size =
     ∷ record { number = 25; fault = bufferFault size }
     ∷ []
 
+-- The filter: file, plan, percent and the size of the plan buffer
 unfoldable pub filterChecks : (plan : List ℕ) → (percent size : ℕ) → List Check
 filterChecks p percent size =
     tableChecks
@@ -173,6 +176,7 @@ filterChecks p percent size =
     ∷ record { number = 25; fault = bufferFault size }
     ∷ []
 
+-- The search: file, plan, kits (the budget), percent and the size of the plan buffer
 unfoldable pub searchChecks : (plan : List ℕ) → (budget percent size : ℕ) → List Check
 searchChecks p budget percent size =
     tableChecks

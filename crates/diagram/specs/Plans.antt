@@ -20,12 +20,13 @@ openTaken [] = []
 openTaken (zero ∷ p) = 1 ∷ openTaken p
 openTaken (suc m ∷ p) = suc m ∷ openTaken p
 
--- How many lines are open, and how many are taken
+-- How many lines are open
 unfoldable pub openCount : List ℕ → ℕ
 openCount [] = 0
 openCount (zero ∷ p) = suc (openCount p)
 openCount (suc m ∷ p) = openCount p
 
+-- How many lines are taken
 unfoldable pub takenCount : List ℕ → ℕ
 takenCount [] = 0
 takenCount (zero ∷ p) = takenCount p
@@ -36,10 +37,11 @@ takenCount (suc (suc m) ∷ p) = takenCount p
 unfoldable pub cost : List ℕ → ℕ
 cost p = takenCount p
 
--- Whether choice i of a plan is open, and whether a plan leaves it
+-- Whether choice i of a plan is open
 unfoldable pub isOpen : List ℕ → ℕ → Bool
 isOpen p i = eqb (getD p i 1) 0
 
+-- "leaves a line when that line's byte is 2": whether a full plan leaves choice i
 unfoldable pub leaves : List ℕ → ℕ → Bool
 leaves p i = eqb (getD p i 0) 2
 
@@ -51,6 +53,7 @@ upperBound t p = score t (openTaken p)
 unfoldable pub derivative : Table → List ℕ → ℕ → ℕ
 derivative t p i = cond (isOpen p i) (upperBound t p - score t (openTaken (set p i 2))) 0
 
+-- The drops of all choices, by choice number
 unfoldable pub derivatives : Table → List ℕ → List ℕ
 derivatives t p = sequence (derivative t p) 0 (length p)
 
@@ -58,6 +61,7 @@ derivatives t p = sequence (derivative t p) 0 (length p)
 unfoldable pub passes : Table → (percent : ℕ) → ℕ → Bool
 passes t percent x = ltb (percent * scale t) (100 * x)
 
+-- Whether a test holds of no element of a list
 unfoldable pub noneOf : {A : Type 0} → (A → Bool) → List A → Bool
 noneOf test xs = every (λ x. not (test x)) xs
 
@@ -69,13 +73,15 @@ passing t percent c = passes t percent (score t c)
 unfoldable pub forced : Table → (percent : ℕ) → List ℕ → ℕ → Bool
 forced t percent p i = isOpen p i && noneOf (λ c. passing t percent c && leaves c i) (completions p)
 
--- The plan with forced lines taken, and how many there are
+-- "the plan with forced lines taken"
 unfoldable pub forcedPlan : Table → (percent : ℕ) → List ℕ → List ℕ
 forcedPlan t percent p = sequence (λ i. cond (forced t percent p i) 1 (getD p i 0)) 0 (length p)
 
+-- How many of the numbers below n a test holds of
 unfoldable pub countOf : (ℕ → Bool) → ℕ → ℕ
 countOf test zero = 0
 countOf test (suc n) = countOf test n + cond (test n) 1 0
 
+-- "how many lines it forced"
 unfoldable pub forcedCount : Table → (percent : ℕ) → List ℕ → ℕ
 forcedCount t percent p = countOf (forced t percent p) (length p)

@@ -17,31 +17,39 @@ digits zero n = []
 digits (suc fuel) n =
     elim (ltb n 10) as (λ _. List ℕ) [ true ↦ (48 + n) ∷ [] | false ↦ digits fuel (n / 10) ++ (48 + n % 10) ∷ [] ]
 
+-- A number in decimal, as document 01 prints it
 unfoldable pub decimal : ℕ → List ℕ
 decimal n = digits (suc n) n
 
--- "refused ", "choices ", " scale ", "kits ", " score ", " visits ", " take" and " left"
+-- "refused "
 unfoldable pub refusedWord : List ℕ
 refusedWord = 114 ∷ 101 ∷ 102 ∷ 117 ∷ 115 ∷ 101 ∷ 100 ∷ 32 ∷ []
 
+-- "choices "
 unfoldable pub choicesWord : List ℕ
 choicesWord = 99 ∷ 104 ∷ 111 ∷ 105 ∷ 99 ∷ 101 ∷ 115 ∷ 32 ∷ []
 
+-- " scale "
 unfoldable pub scaleWord : List ℕ
 scaleWord = 32 ∷ 115 ∷ 99 ∷ 97 ∷ 108 ∷ 101 ∷ 32 ∷ []
 
+-- "kits "
 unfoldable pub kitsWord : List ℕ
 kitsWord = 107 ∷ 105 ∷ 116 ∷ 115 ∷ 32 ∷ []
 
+-- " score "
 unfoldable pub scoreWord : List ℕ
 scoreWord = 32 ∷ 115 ∷ 99 ∷ 111 ∷ 114 ∷ 101 ∷ 32 ∷ []
 
+-- " visits "
 unfoldable pub visitsWord : List ℕ
 visitsWord = 32 ∷ 118 ∷ 105 ∷ 115 ∷ 105 ∷ 116 ∷ 115 ∷ 32 ∷ []
 
+-- " take"
 unfoldable pub takeWord : List ℕ
 takeWord = 32 ∷ 116 ∷ 97 ∷ 107 ∷ 101 ∷ []
 
+-- " left"
 unfoldable pub leftWord : List ℕ
 leftWord = 32 ∷ 108 ∷ 101 ∷ 102 ∷ 116 ∷ []
 
@@ -65,6 +73,7 @@ planText t found =
     ++ line (kitsWord ++ decimal (cost (found .plan)) ++ scoreWord ++ decimal (found .score) ++ visitsWord ++ decimal (found .visits))
     ++ markLines 0 (found .plan)
 
+-- What is printed of what the search answers: a refusal's line, or the plan
 unfoldable pub searchText : Table → Outcome Searching → List ℕ
 searchText t (refused number place) = refusalText number place
 searchText t (answered found) = planText t found

@@ -33,6 +33,7 @@ firstRanked t cs = foldl (better t) none cs
 unfoldable pub isCandidate : Table → (budget percent : ℕ) → List ℕ → Bool
 isCandidate t budget percent c = leb (cost c) budget && passing t percent c
 
+-- The elements of a list that a test holds of, in order
 unfoldable pub select : {A : Type 0} → (A → Bool) → List A → List A
 select test [] = []
 select test (x ∷ xs) = cond (test x) (x ∷ select test xs) (select test xs)

@@ -36,6 +36,7 @@ weight [] s = 1
 weight (choice ∷ vs) s = weight vs (tail s)
 weight (chance a b ∷ vs) s = cond (getD s 0 false) a (b - a) * weight vs (tail s)
 
+-- The sum of a list of numbers
 unfoldable pub sum : List ℕ → ℕ
 sum [] = 0
 sum (x ∷ xs) = x + sum xs
@@ -57,6 +58,7 @@ unfoldable pub assignments : ℕ → List (List Bool)
 assignments zero = [] ∷ []
 assignments (suc v) = map (λ s. true ∷ s) (assignments v) ++ map (λ s. false ∷ s) (assignments v)
 
+-- Whether a test holds of every element of a list
 unfoldable pub every : {A : Type 0} → (A → Bool) → List A → Bool
 every test [] = true
 every test (x ∷ xs) = test x && every test xs

@@ -34,6 +34,7 @@ pub record Reading : Type 0 where
   pub choices : ℕ
   pub scale : ℕ
 
+-- V, N, the number of choices and B of a file
 unfoldable pub reading : List ℕ → Reading
 reading s =
     record {
@@ -43,6 +44,7 @@ reading s =
       scale = scale (tableOf s);
     }
 
+-- What reading answers
 unfoldable pub readOutcome : List ℕ → Outcome Reading
 readOutcome s = checked tableChecks (λ file. answered (reading file)) s
 
@@ -55,6 +57,7 @@ pub record Sweeping : Type 0 where
   pub upperBound : ℕ
   pub derivatives : List ℕ
 
+-- What the sweep answers and writes
 unfoldable pub sweepOutcome : (file plan : List ℕ) → (size : ℕ) → Outcome Sweeping
 sweepOutcome s p size =
     checked (sweepChecks p size)
@@ -71,12 +74,14 @@ pub record Filtering : Type 0 where
   pub forced : ℕ
   pub plan : List ℕ
 
+-- The filter of a table and a legal plan: 31 "no completion passes", else the forced lines
 unfoldable pub filtering : Table → (percent : ℕ) → List ℕ → Outcome Filtering
 filtering t percent p =
     cond (noneOf (passing t percent) (completions p))
     (refused 31 0)
     (answered (record { forced = forcedCount t percent p; plan = forcedPlan t percent p }))
 
+-- What the filter answers and writes
 unfoldable pub filterOutcome : (file plan : List ℕ) → (percent size : ℕ) → Outcome Filtering
 filterOutcome s p percent size = checked (filterChecks p percent size) (λ file. filtering (tableOf file) percent p) s
 
@@ -91,6 +96,7 @@ pub record Searching : Type 0 where
   pub visits : ℕ
   pub plan : List ℕ
 
+-- The search of a table and a legal plan: 32 "no candidate", else the first candidate in the ranking, with the visits of the rule
 unfoldable pub searching : Table → (budget percent : ℕ) → List ℕ → Outcome Searching
 searching t budget percent p =
     elim (bestPlan t budget percent p) as (λ _. Outcome Searching) [
@@ -98,6 +104,7 @@ searching t budget percent p =
       | some c ↦ answered (record { score = score t c; visits = visitCount t budget percent p; plan = c })
     ]
 
+-- What the search answers and writes
 unfoldable pub searchOutcome : (file plan : List ℕ) → (budget percent size : ℕ) → Outcome Searching
 searchOutcome s p budget percent size =
     checked (searchChecks p budget percent size) (λ file. searching (tableOf file) budget percent p) s

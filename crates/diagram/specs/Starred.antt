@@ -37,7 +37,7 @@ tableB last =
     ∷ 0x40 ∷ 0x40 ∷ 0x08 ∷ 0x00
     ∷ last
 
--- A request to a service, with buffers of the right size for table A; `printing` is the program on its input
+-- A request to a service, with buffers of the right size for table A; `printed` is the program on its input
 pub data Request : Type 0 where
   read : (file : List ℕ) → Request
   scored : (file plan : List ℕ) → Request
@@ -51,6 +51,7 @@ unfoldable pub numbers : {A : Type 0} → (A → List ℕ) → Outcome A → Out
 numbers of (refused number place) = refused number place
 numbers of (answered a) = answered (of a)
 
+-- What the meaning answers to a request
 unfoldable pub answerTo : Request → Outcome (List ℕ)
 unfolding numbers
 answerTo (read s) = numbers (λ a. a .variables ∷ a .records ∷ a .choices ∷ a .scale ∷ []) (readOutcome s)
@@ -69,6 +70,7 @@ pub record Case : Type 0 where
 unfoldable pub allOpen : List ℕ
 allOpen = 0 ∷ 0 ∷ []
 
+-- The starred cases, in document 01's order
 unfoldable pub starred : List Case
 starred =
     -- A: scores 0 (none), 10 (line 0), 12 (line 1), 16 (both)

@@ -28,10 +28,11 @@ pub record Table : Type 0 where
   pub variables : List Variable
   pub records : List Record
 
--- V and N, from the heading
+-- V, the number of variables: P of the heading
 unfoldable pub variableCount : List ℕ → ℕ
 variableCount s = fieldP (wordAt s 0)
 
+-- N, the number of records: Q of the heading
 unfoldable pub recordCount : List ℕ → ℕ
 recordCount s = fieldQ (wordAt s 0)
 
@@ -59,6 +60,7 @@ recordAt rs k = getD rs k (record { position = 0; hi = 0; lo = 0 })
 unfoldable pub root : Table → ℕ
 root t = length (t .records) + 1
 
+-- Whether a variable is a choice
 unfoldable pub isChoice : Variable → Bool
 isChoice choice = true
 isChoice (chance a b) = false
@@ -75,5 +77,6 @@ scaleOf [] = 1
 scaleOf (choice ∷ vs) = scaleOf vs
 scaleOf (chance a b ∷ vs) = b * scaleOf vs
 
+-- B of a table, the scale of its scores
 unfoldable pub scale : Table → ℕ
 scale t = scaleOf (t .variables)

@@ -14,11 +14,12 @@ use Rattle.diagram.proofs.Truth.{Formed}
 unfoldable pub column : ℕ → (Record → ℕ) → List Record → List ℕ
 column end part rs = end ∷ end ∷ sequence (λ k. part (recordAt rs k)) 0 254
 
--- The records that three such arrays hold, and the position of the ends
+-- The records that three such arrays hold
 unfoldable pub recordsOf : (positions high low : List ℕ) → List Record
 recordsOf ps hs ls =
     sequence (λ k. record { position = getD ps (k + 2) 0; hi = getD hs (k + 2) 0; lo = getD ls (k + 2) 0 }) 0 254
 
+-- The position of the ends, which the array of positions has at node 0
 unfoldable pub endOf : (positions : List ℕ) → ℕ
 endOf ps = getD ps 0 0
 
@@ -28,11 +29,12 @@ pub record Shaped (s : List ℕ) : Type 0 where
   pub count : countFault s ≡ none
   pub records : recordFault s ≡ none
 
--- A cell of the memo that is set is right: 1 where node m implies node n, 2 where it does not
+-- A cell of the memo for a pair of nodes: 1 where the first implies the second, 2 where it does not, and 0 where that is not known
 unfoldable pub cellOf : Bool → ℕ
 cellOf true = 1
 cellOf false = 2
 
+-- A memo in which every cell that is set is right
 pub record Right (v : ℕ) (rs : List Record) (memo : List ℕ) : Type 0 where
   pub implied : (m n : ℕ) → m < 256 → n < 256 → getD memo (m * 256 + n) 0 ≡ 1 → implies v rs m n ≡ true
   pub refuted : (m n : ℕ) → m < 256 → n < 256 → getD memo (m * 256 + n) 0 ≡ 2 → implies v rs m n ≡ false

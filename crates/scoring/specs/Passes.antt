@@ -35,17 +35,19 @@ pub record Decoded (s ps hs ls : List ℕ) : Type 0 where
 -- ---------------------------------------------------------------------------
 -- What is computed once for a plan
 
--- The mark in force at each position: a choice's own, and 3 for a chance, both of whose arcs are in force
+-- The mark in force at position x: a choice's own, and 3 for a chance, both of whose arcs are in force
 unfoldable pub markOf : Table → (plan : List ℕ) → (x : ℕ) → ℕ
 markOf t p x = cond (isChoice (getD (t .variables) x (chance 0 1))) (getD (marksFrom t x p) 0 0) 3
 
+-- The marks in force at all positions
 unfoldable pub marksByPosition : Table → (plan : List ℕ) → List ℕ
 marksByPosition t p = sequence (markOf t p) 0 64
 
--- An arc is in force unless the mark takes the other one. An open line counts as taken.
+-- The hi arc is in force unless the line is left. An open line counts as taken.
 unfoldable pub highInForce : (mark arc : ℕ) → ℕ
 highInForce m w = cond (eqb m 2) 0 w
 
+-- The lo arc is in force where the line is left, and at a chance
 unfoldable pub lowInForce : (mark arc : ℕ) → ℕ
 lowInForce m w = cond (eqb m 2 || eqb m 3) w 0
 

@@ -28,36 +28,40 @@ value t p n = valueFrom t p (place t n) n
 unfoldable pub gap : Table → (x y : ℕ) → ℕ
 gap t x y = scaleOf (take (y - x) (drop x (t .variables)))
 
--- The variable of record k, and its mark where it is a choice
+-- The variable of record k
 unfoldable pub variableAt : Table → (k : ℕ) → Variable
 variableAt t k = getD (t .variables) (recordAt (t .records) k .position) (chance 0 1)
 
+-- The mark of record k's variable, where that is a choice
 unfoldable pub markAt : Table → (plan : List ℕ) → (k : ℕ) → ℕ
 markAt t p k = getD (marksFrom t (recordAt (t .records) k .position) p) 0 0
 
--- The share of a variable's hi arc and of its lo arc: a and b-a of a chance; of a choice 1 for the arc that its mark takes and 0 for the other
+-- The share of a variable's hi arc: a of a chance; of a choice 1 where its mark takes the line, else 0
 unfoldable pub highShare : Variable → (mark : ℕ) → ℕ
 highShare choice m = cond (isTaken m) 1 0
 highShare (chance a b) m = a
 
+-- The share of a variable's lo arc: b-a of a chance; of a choice 0 where its mark takes the line, else 1
 unfoldable pub lowShare : Variable → (mark : ℕ) → ℕ
 lowShare choice m = cond (isTaken m) 0 1
 lowShare (chance a b) m = b - a
 
--- The weight of record k's arcs under a plan: the share, times b of each variable that the arc skips
+-- The weight of record k's hi arc under a plan: its share, times b of each variable that the arc skips
 unfoldable pub highWeight : Table → (plan : List ℕ) → (k : ℕ) → ℕ
 highWeight t p k =
     highShare (variableAt t k) (markAt t p k) * gap t (recordAt (t .records) k .position + 1) (place t (recordAt (t .records) k .hi))
 
+-- The weight of record k's lo arc under a plan
 unfoldable pub lowWeight : Table → (plan : List ℕ) → (k : ℕ) → ℕ
 lowWeight t p k =
     lowShare (variableAt t k) (markAt t p k) * gap t (recordAt (t .records) k .position + 1) (place t (recordAt (t .records) k .lo))
 
--- The same with both arcs of a choice in force: what does not depend on a plan
+-- The weight of record k's hi arc where it is in force: what does not depend on a plan
 unfoldable pub highArc : Table → (k : ℕ) → ℕ
 highArc t k =
     highShare (variableAt t k) 1 * gap t (recordAt (t .records) k .position + 1) (place t (recordAt (t .records) k .hi))
 
+-- The weight of record k's lo arc where it is in force
 unfoldable pub lowArc : Table → (k : ℕ) → ℕ
 lowArc t k =
     lowShare (variableAt t k) 2 * gap t (recordAt (t .records) k .position + 1) (place t (recordAt (t .records) k .lo))
