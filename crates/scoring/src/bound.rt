@@ -1,17 +1,13 @@
 // The score of a plan with all open lines taken.
-use crate::arcs::arc_weights;
-use crate::arcs::products;
 use crate::force::in_force;
 use crate::force::marks_by_position;
+use crate::layout::lay_out;
 use crate::pass::pass_up;
 use diagram::Node;
-use diagram::Position;
-use reading::decode;
-use reading::position_of;
 use reading::record_count;
 ghost use mathlib.Core.Path.{_≡_};
 ghost use mathlib.Core.List.{List};
-ghost use Prim.Native.Nat.{ℕ, _+_, _/_, _≤_, _<_};
+ghost use Prim.Native.Nat.{ℕ, _+_, _≤_};
 ghost use lib.ListN.{length, getD};
 ghost use Rattle.diagram.specs.Table.{Table, sequence, tableOf, choiceCount};
 ghost use Rattle.diagram.specs.Plans.{openTaken, upperBound};
@@ -32,15 +28,12 @@ pub fn upper_bound(file: &[u8], plan: &[u8]) -> u64
     let mut high_arcs = [0u64; 256];
     let mut low_arcs = [0u64; 256];
     let mut values = [0u64; 256];
-    decode(file, &mut positions, &mut high, &mut low);
-    let products = products(file);
-    arc_weights(
+    let weight = lay_out(
         file,
         n,
-        &products,
-        &positions,
-        &high,
-        &low,
+        &mut positions,
+        &mut high,
+        &mut low,
         &mut high_arcs,
         &mut low_arcs,
     );
@@ -55,8 +48,7 @@ pub fn upper_bound(file: &[u8], plan: &[u8]) -> u64
         &marks,
         &mut values,
     );
-    let root = Node::of_record(n - 1);
-    root_weight(&products, position_of(&positions, root)) * value_of(&values, root)
+    weight * value_of(&values, Node::of_record(n - 1))
 }
 
 // The values of all nodes under the marks in force, an open line counting as taken. The arrays hold a table and a plan, as
@@ -89,16 +81,8 @@ pub fn values_of(
     pass_up(n, high, low, &high_weights, &low_weights, values);
 }
 
-// The product of b before a position.
-fn root_weight(products: &[u64; 64], at: Position) -> u64
-    requires { ⌜ (at .0 < 64) × (0 < getD (now products) (at .0) 0) ⌝ }
-    ensures { λ r. ⌜ r ≡ getD (now (products .entry)) 0 0 / getD (now (products .entry)) (at .0) 0 ⌝ }
-{
-    let p = at.number();
-    products[0] / products[p]
-}
-
-fn value_of(values: &[u64; 256], node: Node) -> u64
+// The value of a node.
+pub fn value_of(values: &[u64; 256], node: Node) -> u64
     ensures { λ r. ⌜ r ≡ getD (now (values .entry)) (node .0) 0 ⌝ }
 {
     let n = node.number();

@@ -60,7 +60,8 @@ pub fn in_force(
     }
 }
 
-fn mark_at(marks: &[u8; 64], at: Position) -> u8
+// The mark in force at a position.
+pub fn mark_at(marks: &[u8; 64], at: Position) -> u8
     requires { ⌜ at .0 < 64 ⌝ }
     ensures { λ r. ⌜ r ≡ getD (now (marks .entry)) (at .0) 0 ⌝ }
 {

@@ -2,71 +2,59 @@
 -- Assumes nothing.
 use Prim.Native.Nat.{_*_}
 use native.Mathlib.Omega.{arith}
-use mathlib.Core.Path.{_≡_, refl}
+use mathlib.Core.Path.{_≡_, refl, sym, _∙_}
+use lib.ListN.{length}
 use Rattle.diagram.specs.Table.{tableOf}
 use Rattle.diagram.specs.Plans.{upperBound}
+use Rattle.reading.proofs.Accepted.{records-length}
 use Rattle.scoring.specs.Passes.{Marked}
-use Rattle.scoring.proofs.Bounding.{records-size, marked, records-few, root-within, root-bound, bound-fits}
+use Rattle.scoring.proofs.Bounding.{marked, records-few, root-bound, bound-fits}
 use borrow.Author.Needs.{needs}
 use Rattle.scoring.proofs.bound.upper_bound.Statement.{statement}
 use Rattle.scoring.proofs.bound.upper_bound.Tie as tie
 
+-- the number of records
+size : (c : tie.After-record-count) → c .record-count .result ≡ length (tableOf (c .before .before .before .args .file .now) .records)
+size c = c .record-count .ensures .0 ∙ sym (records-length _)
+
 -- the arrays hold the table and the plan
-holds : (c : tie.After-values) →
-    let start = c .before .before .before .before .before .before .before .before .before .before .before .before .before .before .before .before .before .before .before .before .before .before .before in
-    let arrays = c .before .before .before .before .before .before .before .before .before .before .before .before .before .before .before .before .decode .last in
-    let arcs = c .before .before .before .before .before .before .before .before .arc-weights .last in
-    Marked (tableOf (start .args .file .now)) (start .args .plan .now) (c .before .before .before .before .before .before .before .before .before .before .before .before .before .before .before .before .before .before .before .before .record-count .result) (arrays .1 .0) (arrays .1 .1 .0) (arrays .1 .1 .1 .0) (arcs .1 .1 .1 .1 .1 .1 .0) (arcs .1 .1 .1 .1 .1 .1 .1 .0) (c .before .before .before .before .before .before .before .marks-by-position .result)
+holds : (c : tie.After-marks-by-position) →
+    let start = c .before .before .before .before .before .before .before .before .before .before in
+    let arrays = c .before .lay-out .last .1 .1 in
+    Marked (tableOf (start .args .file .now)) (start .args .plan .now) (c .before .before .before .before .before .before .before .record-count .result) (arrays .0) (arrays .1 .0) (arrays .1 .1 .0) (arrays .1 .1 .1 .0) (arrays .1 .1 .1 .1 .0) (c .marks-by-position .result)
 holds c =
-    let start = c .before .before .before .before .before .before .before .before .before .before .before .before .before .before .before .before .before .before .before .before .before .before .before in
-    let decoded = c .before .before .before .before .before .before .before .before .before .before .before .before .before .before .before .before .decode .ensures in
-    let weighed = c .before .before .before .before .before .before .before .before .arc-weights .ensures in
-    marked (start .pre .0) _ _ (c .before .before .before .before .before .before .before .before .before .before .before .before .before .before .before .before .before .before .before .before .record-count .ensures .0) _ _ (start .pre .1 .0) (start .pre .1 .1) (decoded .0) (decoded .1 .0) (decoded .1 .1) (weighed .0) (weighed .1) (c .before .before .before .before .before .before .before .marks-by-position .ensures)
+    let start = c .before .before .before .before .before .before .before .before .before .before in
+    let laid = c .before .lay-out .ensures in
+    marked (start .pre .0) _ (size (c .before .before .before .before .before .before .before)) _ _ _ (start .pre .1 .0) (start .pre .1 .1) (laid .0) (laid .1 .0) (laid .1 .1 .0) (c .marks-by-position .ensures)
 
 record-count-requires : tie.Need-record-count-requires
 record-count-requires c κs = search needs
 
-decode-requires : tie.Need-decode-requires
-decode-requires c κs = search needs
-
-products-requires : tie.Need-products-requires
-products-requires c κs = search needs
-
-arc-weights-requires : tie.Need-arc-weights-requires
-arc-weights-requires c κs =
-    let start = c .before .before .before .before .before .before .before .before .before .before .before .before .before .before in
-    let decoded = c .before .before .before .before .before .before .before .decode .ensures in
-    let passed = start .pre .0 in
-    (passed, ((record { positions = decoded .0; high = decoded .1 .0; low = decoded .1 .1 }, c .before .before .before .before .before .before .products .ensures), (records-size passed (start .args .plan .now) _ (c .before .before .before .before .before .before .before .before .before .before .before .record-count .ensures .0), refl, refl)))
+lay-out-requires : tie.Need-lay-out-requires
+lay-out-requires c κs = ((c .before .before .before .before .before .before .before .before .pre .0, size (c .before .before .before .before .before)), (refl, refl, refl, refl, refl))
 
 marks-by-position-requires : tie.Need-marks-by-position-requires
 marks-by-position-requires c κs = search needs
 
 values-of-requires : tie.Need-values-of-requires
-values-of-requires c κs = ((_, _, holds c), refl)
+values-of-requires c κs = ((_, _, holds (c .before .before .before .before .before .before .before)), refl)
 
 sub-of-record : tie.Need-sub-of-record
-sub-of-record c = records-few (c .before .before .before .before .before .before .before .before .before .before .before .before .before .before .before .before .before .before .before .before .before .before .before .before .pre .0) (c .before .before .before .before .before .before .before .before .before .before .before .before .before .before .before .before .before .before .before .before .before .before .before .before .args .plan .now) _ (c .before .before .before .before .before .before .before .before .before .before .before .before .before .before .before .before .before .before .before .before .before .record-count .ensures .0) .0
+sub-of-record c = records-few (c .before .before .before .before .before .before .before .before .before .before .before .before .before .before .before .before .before .before .before .pre .0) _ (size (c .before .before .before .before .before .before .before .before .before .before .before .before .before .before .before .before)) .0
 
 of-record-requires : tie.Need-of-record-requires
-of-record-requires c κs = records-few (c .before .before .before .before .before .before .before .before .before .before .before .before .before .before .before .before .before .before .before .before .before .before .before .before .pre .0) (c .before .before .before .before .before .before .before .before .before .before .before .before .before .before .before .before .before .before .before .before .before .before .before .before .args .plan .now) _ (c .before .before .before .before .before .before .before .before .before .before .before .before .before .before .before .before .before .before .before .before .before .record-count .ensures .0) .1
-
-position-of-requires : tie.Need-position-of-requires
-position-of-requires c κs = search needs
-
-root-weight-requires : tie.Need-root-weight-requires
-root-weight-requires c κs = root-within (c .before .before .before .before .before .before .before .before .before .before .before .before .before .before .before .before .before .before .before .before .before .before .before .before .before .before .before .before .pre .0) (c .before .before .before .before .before .before .before .before .before .before .before .before .before .before .before .before .before .before .before .before .before .before .before .before .before .before .before .before .args .plan .now) _ (c .before .before .before .before .before .before .before .before .before .before .before .before .before .before .before .before .before .before .before .before .before .before .before .before .before .record-count .ensures .0) (c .before .before .before .before .before .before .before .before .before .before .before .before .before .before .before .before .before .before .before .before .before .decode .ensures .0) (c .before .before .before .before .before .before .before .before .before .before .before .before .before .before .before .before .before .before .before .before .products .ensures) (c .before .before .before .of-record .ensures) (c .position-of .ensures)
+of-record-requires c κs = records-few (c .before .before .before .before .before .before .before .before .before .before .before .before .before .before .before .before .before .before .before .pre .0) _ (size (c .before .before .before .before .before .before .before .before .before .before .before .before .before .before .before .before)) .1
 
 value-of-requires : tie.Need-value-of-requires
 value-of-requires c κs = search needs
 
-bound : (c : tie.After-value-of) → c .before .before .root-weight .result * c .value-of .result ≡ upperBound (tableOf (c .before .before .before .before .before .before .before .before .before .before .before .before .before .before .before .before .before .before .before .before .before .before .before .before .before .before .before .before .before .before .before .args .file .now)) (c .before .before .before .before .before .before .before .before .before .before .before .before .before .before .before .before .before .before .before .before .before .before .before .before .before .before .before .before .before .before .before .args .plan .now)
+bound : (c : tie.After-value-of) → c .before .before .before .before .before .before .before .before .before .before .before .before .lay-out .result * c .value-of .result ≡ upperBound (tableOf (c .before .before .before .before .before .before .before .before .before .before .before .before .before .before .before .before .before .before .before .before .before .args .file .now)) (c .before .before .before .before .before .before .before .before .before .before .before .before .before .before .before .before .before .before .before .before .before .args .plan .now)
 bound c =
-    let at = c .before .before .before in
-    root-bound (at .before .before .before .before .before .before .before .before .before .before .before .before .before .before .before .before .before .before .before .before .before .before .before .before .before .before .before .before .pre .0) (at .before .before .before .before .before .before .before .before .before .before .before .before .before .before .before .before .before .before .before .before .before .before .before .before .before .before .before .before .args .plan .now) _ (at .before .before .before .before .before .before .before .before .before .before .before .before .before .before .before .before .before .before .before .before .before .before .before .before .before .record-count .ensures .0) (at .before .before .before .before .before .before .before .before .before .before .before .before .before .before .before .before .before .before .before .before .before .decode .ensures .0) (at .before .before .before .before .before .before .before .before .before .before .before .before .before .before .before .before .before .before .before .before .products .ensures) (at .before .before .before .of-record .ensures) (at .position-of .ensures) _ (at .before .before .before .before .values-of .ensures _ _ (holds (at .before .before .before .before .before))) (c .before .before .root-weight .ensures) (c .value-of .ensures)
+    let m = holds (c .before .before .before .before .before .before .before .before .before .before .before) in
+    root-bound m _ (records-few (c .before .before .before .before .before .before .before .before .before .before .before .before .before .before .before .before .before .before .before .before .before .pre .0) _ (size (c .before .before .before .before .before .before .before .before .before .before .before .before .before .before .before .before .before .before)) .0) (c .before .before .before .values-of .ensures _ _ m) (c .before .of-record .ensures) (c .before .before .before .before .before .before .before .before .before .before .before .before .lay-out .ensures .1 .1 .1) (c .value-of .ensures)
 
 mul-result : tie.Need-mul-result
-mul-result c = record { fits = rw (bound c) (omega (arith, bound-fits (c .before .before .before .before .before .before .before .before .before .before .before .before .before .before .before .before .before .before .before .before .before .before .before .before .before .before .before .before .before .before .before .pre .0) (c .before .before .before .before .before .before .before .before .before .before .before .before .before .before .before .before .before .before .before .before .before .before .before .before .before .before .before .before .before .before .before .args .plan .now))) }
+mul-result c = record { fits = rw (bound c) (omega (arith, bound-fits (c .before .before .before .before .before .before .before .before .before .before .before .before .before .before .before .before .before .before .before .before .before .pre .0) (c .before .before .before .before .before .before .before .before .before .before .before .before .before .before .before .before .before .before .before .before .before .args .plan .now))) }
 
 returns : tie.Need-returns
 returns c = bound c
@@ -76,15 +64,11 @@ upper-bound-spec =
     tie.close
     (tie.spec
     record-count-requires
-    decode-requires
-    products-requires
-    arc-weights-requires
+    lay-out-requires
     marks-by-position-requires
     values-of-requires
     sub-of-record
     of-record-requires
-    position-of-requires
-    root-weight-requires
     value-of-requires
     mul-result
     returns)

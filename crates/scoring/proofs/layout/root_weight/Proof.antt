@@ -1,7 +1,7 @@
 -- `root_weight` meets its contract. Assumes nothing.
 use borrow.Author.Needs.{needs}
-use Rattle.scoring.proofs.bound.root_weight.Statement.{statement}
-use Rattle.scoring.proofs.bound.root_weight.Tie as tie
+use Rattle.scoring.proofs.layout.root_weight.Statement.{statement}
+use Rattle.scoring.proofs.layout.root_weight.Tie as tie
 
 number-requires : tie.Need-number-requires
 number-requires c κs = search needs

@@ -1,0 +1,1 @@
+-- The laws of the pass down, of the drops and of the filter, and demand 3.

@@ -1,0 +1,10 @@
+-- The checks that the sweep, the filter and the search share.
+use Prim.Native.Nat.{ℕ}
+use mathlib.Core.List.{List}
+use Rattle.diagram.specs.Checks.{searchChecks}
+use Rattle.diagram.specs.Services.{Outcome, answered, checked, Reading, reading}
+
+-- What comes of a request for a file, a plan, kits, a percentage and a buffer's size before it is answered: a refusal, or what reading answers. A service
+-- without kits or percent asks for none, and the checks 23 and 24 pass.
+unfoldable pub requestOutcome : (file plan : List ℕ) → (budget percent size : ℕ) → Outcome Reading
+requestOutcome s p budget percent size = checked (searchChecks p budget percent size) (λ file. answered (reading file)) s

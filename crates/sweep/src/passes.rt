@@ -1,0 +1,110 @@
+// The two passes of a plan: its top and its drops.
+use crate::down::pass_down;
+use crate::drops::by_choice;
+use crate::drops::drops_by_position;
+use diagram::Node;
+use reading::record_count;
+use scoring::in_force;
+use scoring::lay_out;
+use scoring::marks_by_position;
+use scoring::pass_up;
+use scoring::value_of;
+ghost use mathlib.Core.Path.{_≡_};
+ghost use mathlib.Core.List.{List};
+ghost use Prim.Native.Nat.{ℕ, _≤_};
+ghost use lib.ListN.{length, getD, replicate};
+ghost use Rattle.diagram.specs.Table.{Table, sequence, tableOf, root, choiceCount};
+ghost use Rattle.diagram.specs.Plans.{upperBound, derivatives};
+ghost use Rattle.diagram.proofs.Checked.{Passed};
+ghost use Rattle.diagram.proofs.Rising.{Monotone};
+ghost use Rattle.scoring.specs.Value.{place, gap};
+ghost use Rattle.scoring.specs.Passes.{over, Marked};
+ghost use Rattle.sweep.specs.Drops.{derivativeAt};
+
+// The top of a plan and the drops of its choices, by choice number; the places after the last choice are 0.
+pub struct Sweep {
+    pub bound: u64,
+    pub drops: [u64; 20],
+}
+
+// The top and the drops by position.
+pub struct ByPosition {
+    pub bound: u64,
+    pub drops: [u64; 64],
+}
+
+// The top and the drops of a file that has passed every check and a plan that the checks 21 and 22 let through.
+pub fn two_passes(file: &[u8], plan: &[u8]) -> Sweep
+    requires passed { ⌜ Passed (now file) ⌝ }
+    requires plan { ⌜ (length (now plan) ≡ choiceCount (tableOf (now file) .variables)) × ((i : ℕ) → getD (now plan) i 0 ≤ 2) ⌝ }
+    ensures bound { λ r. ⌜ r .bound ≡ upperBound (tableOf (now (file .entry))) (now (plan .entry)) ⌝ }
+    ensures drops { λ r. ⌜ r .drops ≡ over (derivatives (tableOf (now (file .entry))) (now (plan .entry))) (replicate 20 0) ⌝ }
+{
+    let n = record_count(file);
+    let mut positions = [0u8; 256];
+    let mut high = [0u8; 256];
+    let mut low = [0u8; 256];
+    let mut high_arcs = [0u64; 256];
+    let mut low_arcs = [0u64; 256];
+    let weight = lay_out(
+        file,
+        n,
+        &mut positions,
+        &mut high,
+        &mut low,
+        &mut high_arcs,
+        &mut low_arcs,
+    );
+    let marks = marks_by_position(file, plan);
+    let swept = up_and_down(
+        n,
+        &positions,
+        &high,
+        &low,
+        &high_arcs,
+        &low_arcs,
+        &marks,
+        weight,
+    );
+    let drops = swept.drops;
+    Sweep {
+        bound: swept.bound,
+        drops: by_choice(file, &drops),
+    }
+}
+
+// One pass up gives the values of the nodes, one pass down their path weights; the weight handed in is the root's. The
+// arrays hold a monotone table and a plan, as `lay_out` and `marks_by_position` leave them.
+fn up_and_down(
+    n: usize,
+    positions: &[u8; 256],
+    high: &[u8; 256],
+    low: &[u8; 256],
+    high_arcs: &[u64; 256],
+    low_arcs: &[u64; 256],
+    marks: &[u8; 64],
+    weight: u64,
+) -> ByPosition
+    requires { ⌜ ((t : Table) × (p : List ℕ) × Marked t p n (now positions) (now high) (now low) (now «high_arcs») (now «low_arcs») (now marks) × Monotone t × (weight ≡ gap t 0 (place t (root t))) × (1 ≤ n)) ⌝ }
+    ensures { λ r. ⌜ ((t : Table) (p : List ℕ) → Marked t p n (now (positions .entry)) (now (high .entry)) (now (low .entry)) (now («high_arcs» .entry)) (now («low_arcs» .entry)) (now (marks .entry)) → Monotone t → weight ≡ gap t 0 (place t (root t)) → (r .bound ≡ upperBound t p) × (r .drops ≡ sequence (derivativeAt t p) 0 64)) ⌝ }
+{
+    let mut high_weights = [0u64; 256];
+    let mut low_weights = [0u64; 256];
+    let mut values = [0u64; 256];
+    let mut weights = [0u64; 256];
+    in_force(
+        n,
+        positions,
+        marks,
+        high_arcs,
+        low_arcs,
+        &mut high_weights,
+        &mut low_weights,
+    );
+    pass_up(n, high, low, &high_weights, &low_weights, &mut values);
+    weights[n + 1] = weight;
+    pass_down(n, high, low, &high_weights, &low_weights, &mut weights);
+    let bound = weight * value_of(&values, Node::of_record(n - 1));
+    let drops = drops_by_position(n, positions, low, low_arcs, marks, &values, &weights);
+    ByPosition { bound, drops }
+}
