@@ -45,7 +45,7 @@ fn hand_on(
     weights: &mut [u64; 256],
     node: Node,
 )
-    requires fits { ⌜ ((i : ℕ) → getD (handOn (record { high = now high; low = now low; highWeights = now «high_weights»; lowWeights = now «low_weights» }) (node .0) (now weights)) i 0 ≤ 2 ^ 56) ⌝ }
+    requires fits { ⌜ (getD (now high) (node .0) 0 < node .0) × (getD (now low) (node .0) 0 < node .0) × ((i : ℕ) → i < node .0 → getD (handOn (record { high = now high; low = now low; highWeights = now «high_weights»; lowWeights = now «low_weights» }) (node .0) (now weights)) i 0 ≤ 2 ^ 56) ⌝ }
     requires sizes { ⌜ length (now weights) ≡ 256 ⌝ }
     ensures { λ _. ⌜ now (weights .exit) ≡ handOn (record { high = now (high .entry); low = now (low .entry); highWeights = now («high_weights» .entry); lowWeights = now («low_weights» .entry) }) (node .0) (now (weights .entry)) ⌝ }
 {

@@ -2,18 +2,18 @@
 mod answer;
 mod down;
 mod drops;
-mod force;
-mod passes;
+mod forced;
 mod request;
+mod two_pass;
 
 pub use answer::FilterAnswer;
 pub use answer::RequestAnswer;
 pub use answer::SweepAnswer;
 use diagram::Refusal;
-use force::force;
-pub use force::passes;
-use passes::two_passes;
+use forced::force;
+pub use forced::passes;
 pub use request::accept;
+use two_pass::two_passes;
 ghost use mathlib.Core.Path.{_≡_};
 ghost use Prim.Native.Nat.{_≤_};
 ghost use lib.ListN.{length, take};
