@@ -2,7 +2,7 @@
 """Writes the input of the test program `cases` and what it has to write, the latter by oracle.py. Run it in this folder."""
 import random
 
-from oracle import bytes_of, fields, show_read, show_score, word
+from oracle import (bytes_of, fields, read, Refused, scored_ways, show_filter, show_read, show_score, show_sweep, word)
 
 A = [0x11002000, 0x20000000, 0x30400802, 0x20800000, 0x30C0300A, 0x40C00800, 0x40801000, 0x40400803, 0x40002003]
 B = [0x10801000, 0x20000000, 0x3040380A, 0x40400800, 0x40001000]
@@ -16,21 +16,48 @@ def note(text):
     answers.append("# " + text)
 
 
+def text_of(data, *parts):
+    return " | ".join([" ".join(data[i:i + 4].hex() for i in range(0, len(data), 4)), *parts])
+
+
+def marks_of(plan):
+    return "".join("%x" % m for m in plan)
+
+
+def case(label, service, text, answer):
+    lines.append(f"{label}: {service} {text}".rstrip())
+    answers.append(f"{label}:{answer}")
+
+
+def file_of(data):
+    return data if isinstance(data, bytes) else bytes_of(data)
+
+
 def reads(label, data):
-    if not isinstance(data, bytes):
-        data = bytes_of(data)
-    text = " ".join(data[i:i + 4].hex() for i in range(0, len(data), 4))
-    lines.append(f"{label}: r {text}".rstrip())
-    answers.append(f"{label}:{show_read(data)}")
+    data = file_of(data)
+    case(label, "r", text_of(data), show_read(data))
 
 
 def scores(label, data, plan):
-    if not isinstance(data, bytes):
-        data = bytes_of(data)
-    text = " ".join(data[i:i + 4].hex() for i in range(0, len(data), 4))
-    marks = "".join("%x" % m for m in plan)
-    lines.append(f"{label}: s {text} | {marks}".rstrip())
-    answers.append(f"{label}:{show_score(data, plan)}")
+    data = file_of(data)
+    case(label, "s", text_of(data, marks_of(plan)), show_score(data, plan))
+
+
+def sweeps(label, data, plan, size=None):
+    data = file_of(data)
+    size = len(plan) if size is None else size
+    case(label, "w", text_of(data, marks_of(plan), str(size)), show_sweep(data, plan, size))
+
+
+def filters(label, data, plan, percents, size=None):
+    data = file_of(data)
+    size = len(plan) if size is None else size
+    try:
+        ways = scored_ways(read(data), plan)
+    except (Refused, IndexError):
+        ways = None
+    for percent in percents:
+        case(f"{label}, {percent}", "f", text_of(data, marks_of(plan), f"{size}, {percent}"), show_filter(data, plan, percent, size, ways))
 
 
 def choice(p):
@@ -258,6 +285,85 @@ for i in range(120):
     t = made(rng.randint(1, 9), rng.randint(1, 14))
     n = sum(1 for w in t[1:1 + fields(t[0])[1]] if w >> 28 == 2)
     scores(f"made {i}", t, [rng.choice((1, 2)) for _ in range(n)])
+
+note("Sweep and filter of table A, all nine markings, and every percentage")
+for i in (0, 1, 2):
+    for j in (0, 1, 2):
+        sweeps(f"sweep A {i} {j}", A, [i, j])
+        filters(f"filter A {i} {j}", A, [i, j], range(101))
+for i in (0, 1, 2):
+    sweeps(f"sweep B {i}", B, [i])
+    filters(f"filter B {i}", B, [i], (0, 69, 70, 71, 100))
+
+note("Sweep and filter with skipped variables, shared, equal and unreachable nodes, certain events")
+some = (0, 1, 10, 25, 33, 50, 51, 66, 75, 90, 99, 100)
+shapes = {**{f"skipped {k}": v for k, v in skip.items()}, "shared nodes": shared, "equal records": equal, "unreachable records": unreachable}
+for label, records in shapes.items():
+    for i in (0, 1, 2):
+        for j in (0, 1, 2):
+            sweeps(f"sweep, {label}, {i} {j}", table(chances, records), [i, j])
+            filters(f"filter, {label}, {i} {j}", table(chances, records), [i, j], some)
+for a in (0, 3, 5):
+    t = table([chance(0, a, 5), choice(1)], [record(1, 1, 0), record(0, 2, 0)])
+    sweeps(f"sweep, a {a} of 5", t, [0])
+    filters(f"filter, a {a} of 5", t, [0], (0, 59, 60, 99, 100))
+sweeps("sweep, no chance", table([choice(0)], last), [0])
+filters("filter, no chance", table([choice(0)], last), [0], (0, 99, 100))
+for label, records in (("true", last), ("false", [record(0, 0, 0)])):
+    t = table([chance(0, 3, 10)], records)
+    sweeps(f"sweep, no choice, {label}", t, [])
+    filters(f"filter, no choice, {label}", t, [], (0, 29, 30, 100))
+chain = table(big, [record(7, 1, 0)] + [record(7 - k, k + 1, 0) for k in range(1, 7)] + [record(0, 8, 0)])
+for i in (0, 1, 2):
+    sweeps(f"sweep, 2^56, {i}", chain, [i])
+    filters(f"filter, 2^56, {i}", chain, [i], (0, 97, 98, 100))
+
+note("Refusals of sweep and filter, after those of the file, with the buffer as it was")
+bad = (
+    ("11", bytes_of(A)[:35]), ("12", put(A, 0, 0x11002001)), ("13", A[:-1]), ("14", put(A, 1, 0)),
+    ("15", table([choice(i) for i in range(21)], last)), ("16", table([chance(i, 1, 1000) for i in range(6)], last)),
+    ("17", put(A, 5, 0)), ("18", table(two, [record(0, 0, 1), record(0, 1, 0)])), ("18 later", table(two, [record(1, 1, 0), record(0, 0, 1)])),
+)
+for label, data in bad:
+    sweeps(f"sweep, {label}", data, [0, 3], 1)
+    filters(f"filter, {label}", data, [0, 3], (101,), 1)
+for plan, size in (([], 2), ([0], 2), ([0, 0, 0], 2), ([0, 3, 0], 1), ([3, 0], 2), ([0, 3], 2), ([15, 9], 2), ([3, 3], 1), ([0, 0], 0), ([0, 0], 1), ([0, 0], 3),
+                   ([1, 2], 24)):
+    sweeps(f"sweep, plan {marks_of(plan)} and {size} places", A, plan, size)
+    filters(f"filter, plan {marks_of(plan)} and {size} places", A, plan, (50, 80, 101), size)
+filters("filter, percent", A, [0, 0], (99, 100, 101, 128, 256, 2047, 65536, 999999))
+sweeps("sweep, a place too many", table([chance(0, 3, 10)], last), [], 1)
+filters("filter, a place too many", table([chance(0, 3, 10)], last), [], (0,), 1)
+
+
+def sweep_and_filter(label, t):
+    n = sum(1 for w in t[1:1 + fields(t[0])[1]] if w >> 28 == 2)
+    plan = [rng.choice((0, 0, 0, 1, 2)) for _ in range(n)]
+    sweeps(f"sweep, {label}", t, plan)
+    filters(f"filter, {label}", t, plan, (0, 20, 40, 60, 80, 100))
+
+
+note("Sweep and filter of made tables")
+for i in range(150):
+    sweep_and_filter(f"made {i}", made(rng.randint(1, 9), rng.randint(1, 16)))
+
+
+def layered(v, n):
+    """A table in which every arc leads to a nearby node, so that nodes are shared; a choice's lo is an end or its own hi's lo."""
+    variables = [choice(i) if rng.random() < 0.4 else chance(i, rng.randint(1, 4), 5) for i in range(v)]
+    records = []
+    for p in sorted((rng.randrange(v) for _ in range(n)), reverse=True):
+        below = [k + 2 for k, r in enumerate(records) if fields(r)[1] > p] or [0, 1]
+        hi, lo = rng.choice(below[-4:]), rng.choice(below[-4:])
+        if variables[p] >> 28 == 2:
+            lo = 0 if hi < 2 or rng.random() < 0.4 else fields(records[hi - 2])[3]
+        records.append(record(p, hi, lo))
+    return table(variables, records)
+
+
+note("Sweep and filter of made tables with many shared nodes")
+for i in range(150):
+    sweep_and_filter(f"shared {i}", layered(rng.randint(3, 10), rng.randint(4, 24)))
 
 with open("../crates/cases/stdin", "w") as out:
     out.write("\n".join(lines) + "\n")

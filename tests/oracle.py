@@ -135,14 +135,90 @@ def score(table, plan):
     return total
 
 
+def full(plan, mark):
+    """The plan with this mark in place of open."""
+    return [m or mark for m in plan]
+
+
+def completions(plan):
+    opens = [i for i, m in enumerate(plan) if m == 0]
+    for marks in product([1, 2], repeat=len(opens)):
+        way = list(plan)
+        for i, m in zip(opens, marks):
+            way[i] = m
+        yield way
+
+
+def passes(table, percent, x):
+    return 100 * x > percent * table.scale
+
+
+def sweep(table, plan):
+    """The top, and the drops."""
+    top = score(table, full(plan, 1))
+    return top, [top - score(table, full(plan[:i] + [2] + plan[i + 1:], 1)) if m == 0 else 0 for i, m in enumerate(plan)]
+
+
+def scored_ways(table, plan):
+    return [(way, score(table, way)) for way in completions(plan)]
+
+
+def filter_of(table, plan, percent, ways):
+    """How many lines are forced, and the plan with them taken, or refusal 31."""
+    passing = [way for way, x in ways if passes(table, percent, x)]
+    if not passing:
+        raise Refused(31, 0)
+    forced = [m == 0 and all(way[i] != 2 for way in passing) for i, m in enumerate(plan)]
+    return sum(forced), [1 if f else m for f, m in zip(forced, plan)]
+
+
+def check_plan(table, plan, score=False):
+    if len(plan) != len(table.choices):
+        raise Refused(21, 0)
+    for i, m in enumerate(plan):
+        if m > 2 or score and m == 0:
+            raise Refused(22, i)
+
+
+def check_buffer(table, size):
+    if size != len(table.choices):
+        raise Refused(25, 0)
+
+
+def numbers(xs):
+    return "".join(f" {x}" for x in xs)
+
+
+def show_sweep(data, plan, size):
+    held = [7] * size
+    try:
+        t = read(data)
+        check_plan(t, plan)
+        check_buffer(t, size)
+        top, held = sweep(t, plan)
+        return f" top {top}, drops{numbers(held)}"
+    except Refused as r:
+        return f" refused {r.number} {r.place}, drops{numbers(held)}"
+
+
+def show_filter(data, plan, percent, size, ways=None):
+    held = [7] * size
+    try:
+        t = read(data)
+        check_plan(t, plan)
+        if percent > 100:
+            raise Refused(23, 0)
+        check_buffer(t, size)
+        count, held = filter_of(t, plan, percent, ways or scored_ways(t, plan))
+        return f" forced {count}, plan{numbers(held)}"
+    except Refused as r:
+        return f" refused {r.number} {r.place}, plan{numbers(held)}"
+
+
 def show_score(data, plan):
     try:
         t = read(data)
-        if len(plan) != len(t.choices):
-            raise Refused(21, 0)
-        for i, m in enumerate(plan):
-            if m > 2 or m == 0:
-                raise Refused(22, i)
+        check_plan(t, plan, score=True)
     except Refused as r:
         return f" refused {r.number} {r.place}"
     return f" score {score(t, plan)}"

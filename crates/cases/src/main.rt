@@ -1,11 +1,14 @@
 // Runs the services on the cases of standard input, a line each, and writes what they answer.
 //
-// A line is a label, a colon, a letter for the service (r reads, s scores), the file's bytes in hexadecimal and, after a
-// bar, the plan's marks, a digit each; spaces count for nothing. The label is written back, and then the answer. A line
-// without a colon is written back as it is.
+// A line is a label, a colon, a letter for the service (r reads, s scores, w sweeps, f filters), the file's bytes in
+// hexadecimal, after a bar the plan's marks, a digit each, and after another bar the size of the lent buffer and, after a
+// comma, the percentage; spaces count for nothing. The label is written back, then the answer, and then the lent buffer, in
+// which every place is 7 to begin with. A line without a colon is written back as it is.
 use diagram::Refusal;
 use reading::ReadAnswer;
 use scoring::ScoreAnswer;
+use sweep::FilterAnswer;
+use sweep::SweepAnswer;
 ghost use Prim.Native.Nat.{_≤_};
 ghost use lib.ListN.{length};
 
@@ -52,23 +55,54 @@ fn step(line: Line, b: u8, file: &mut [u8], plan: &mut [u8]) -> Line {
     if line.part == Line::FILE {
         return line.digit(b, file);
     }
-    line.mark(b, plan)
+    if line.part == Line::PLAN {
+        return line.mark(b, plan);
+    }
+    line.number(b)
 }
 
 // Runs the case of a line on the parts of the buffers that it has filled.
 fn end(line: Line, file: &[u8], plan: &[u8]) {
     let n = line.length(file);
     let m = line.plan_length(plan);
-    run(line.service, &file[..n], &plan[..m]);
+    run(line, &file[..n], &plan[..m]);
 }
 
 // Runs a service, and writes what it answers.
-fn run(service: u8, file: &[u8], plan: &[u8]) {
-    match service {
+fn run(line: Line, file: &[u8], plan: &[u8]) {
+    match line.service {
         b'r' => show_reading(reading::read(file)),
         b's' => show_score(scoring::score(file, plan)),
-        _ => show_text(b" no such service\n"),
+        b'w' => run_sweep(file, plan, line.size),
+        b'f' => run_filter(file, plan, line.percent, line.size),
+        _ => show_text(b" no such service"),
     }
+    show_text(b"\n");
+}
+
+// Runs the sweep on a buffer of a given size.
+fn run_sweep(file: &[u8], plan: &[u8], size: u32) {
+    let mut drops = [7u64; 24];
+    let n = at_most_24(size);
+    show_sweep(sweep::sweep(file, plan, &mut drops[..n]));
+    show_text(b", drops");
+    show_numbers(&drops[..n]);
+}
+
+// Runs the filter on a buffer of a given size.
+fn run_filter(file: &[u8], plan: &[u8], percent: u32, size: u32) {
+    let mut out = [7u8; 24];
+    let n = at_most_24(size);
+    show_filter(sweep::filter(file, plan, percent, &mut out[..n]));
+    show_text(b", plan");
+    show_marks(&out[..n]);
+}
+
+// A size, cut to 24.
+fn at_most_24(size: u32) -> usize
+    ensures { λ r. ⌜ r ≤ 24 ⌝ }
+{
+    if size < 24 { size as usize } else { 24 }
 }
 
 // A line of the input, as far as it has come.
@@ -80,6 +114,10 @@ struct Line {
     half: u8,
     // How many marks the plan has.
     marks: usize,
+    // The numbers after the plan: the buffer's size and the percentage, and how many commas have come.
+    commas: u8,
+    size: u32,
+    percent: u32,
 }
 
 impl Line {
@@ -91,6 +129,8 @@ impl Line {
 
     const PLAN: u8 = 3;
 
+    const NUMBERS: u8 = 4;
+
     fn new() -> Line {
         Line {
             part: Line::LABEL,
@@ -98,6 +138,9 @@ impl Line {
             count: 0,
             half: 16,
             marks: 0,
+            commas: 0,
+            size: 0,
+            percent: 0,
         }
     }
 
@@ -142,8 +185,12 @@ impl Line {
         self
     }
 
-    // A mark of the plan, or a space.
+    // A mark of the plan, a space, or the bar before the numbers.
     fn mark(mut self, b: u8, plan: &mut [u8]) -> Line {
+        if b == b'|' {
+            self.part = Line::NUMBERS;
+            return self;
+        }
         let d = value(b);
         let at = self.marks;
         if 15 < d {
@@ -152,6 +199,24 @@ impl Line {
         if at < plan.len() {
             plan[at] = d;
             self.marks = at + 1;
+        }
+        self
+    }
+
+    // A digit of a number, a space, or the comma between two.
+    fn number(mut self, b: u8) -> Line {
+        if b == b',' {
+            self.commas = 1;
+            return self;
+        }
+        let d = value(b);
+        if 9 < d {
+            return self;
+        }
+        if self.commas == 0 {
+            self.size = append(self.size, d);
+        } else {
+            self.percent = append(self.percent, d);
         }
         self
     }
@@ -178,6 +243,11 @@ fn least(n: usize, buffer: &[u8]) -> usize
     if n < buffer.len() { n } else { buffer.len() }
 }
 
+// A number with one more decimal digit, as long as it is small.
+fn append(n: u32, d: u8) -> u32 {
+    if n < 100000 { n * 10 + d as u32 } else { n }
+}
+
 // The value of a hexadecimal digit, or 16.
 fn value(b: u8) -> u8 {
     match b {
@@ -199,6 +269,24 @@ fn show_number(n: u64) {
     io::print_decimal(libc::STDOUT_FILENO, n);
 }
 
+// Numbers, each after a space.
+fn show_numbers(numbers: &[u64]) {
+    let mut i = 0;
+    while i < numbers.len() {
+        show_number(numbers[i]);
+        i += 1;
+    }
+}
+
+// Marks, each after a space.
+fn show_marks(marks: &[u8]) {
+    let mut i = 0;
+    while i < marks.len() {
+        show_number(marks[i] as u64);
+        i += 1;
+    }
+}
+
 fn show_reading(answer: ReadAnswer) {
     match answer {
         ReadAnswer::Table(t) => {
@@ -207,7 +295,6 @@ fn show_reading(answer: ReadAnswer) {
             show_number(t.records as u64);
             show_number(t.choices as u64);
             show_number(t.scale);
-            show_text(b"\n");
         }
         ReadAnswer::Refused(r) => show_refusal(r),
     }
@@ -218,9 +305,28 @@ fn show_score(answer: ScoreAnswer) {
         ScoreAnswer::Score(x) => {
             show_text(b" score");
             show_number(x);
-            show_text(b"\n");
         }
         ScoreAnswer::Refused(r) => show_refusal(r),
+    }
+}
+
+fn show_sweep(answer: SweepAnswer) {
+    match answer {
+        SweepAnswer::Bound(x) => {
+            show_text(b" top");
+            show_number(x);
+        }
+        SweepAnswer::Refused(r) => show_refusal(r),
+    }
+}
+
+fn show_filter(answer: FilterAnswer) {
+    match answer {
+        FilterAnswer::Forced(n) => {
+            show_text(b" forced");
+            show_number(n as u64);
+        }
+        FilterAnswer::Refused(r) => show_refusal(r),
     }
 }
 
@@ -228,5 +334,4 @@ fn show_refusal(r: Refusal) {
     show_text(b" refused");
     show_number(r.number as u64);
     show_number(r.place as u64);
-    show_text(b"\n");
 }
