@@ -13,7 +13,7 @@ use Rattle.diagram.specs.Table.{tableOf}
 use Rattle.diagram.specs.Plans.{completions, isOpen, leaves, noneOf, passing, passes}
 use Rattle.diagram.proofs.Every.{both, and-true-both}
 use Rattle.diagram.proofs.Rising.{Completes, complete, takes, leaves-open, keeps, all-complete, each-complete}
-use Rattle.sweep.specs.Demand.{Open, Completion, Passing, NonePasses, NoneLeaves}
+use Rattle.sweep.specs.Demand.{Open, Completion, NonePasses, NoneLeaves}
 
 -- ---------------------------------------------------------------------------
 -- Open lines
@@ -58,6 +58,7 @@ settles : {x : ℕ} {p c : List ℕ} → (x ≡ 1) ⊎ (x ≡ 2) → Completes p
 settles (inl e) k = rw e (takes k)
 settles (inr e) k = rw e (leaves-open k)
 
+-- a completion is an element of `completions`
 pub completion-completes : (p c : List ℕ) → Completion p c → Completes p c
 completion-completes [] [] h = complete
 completion-completes [] (x ∷ c) h = absurd (omega (arith, h .size))
@@ -77,6 +78,7 @@ earlier m x {p} {c} first same h = record { size = let s = h .size in omega arit
     other zero l n = same n
     other (suc i) l n = h .kept i (omega arith) n
 
+-- an element of `completions` is a completion
 pub completes-completion : {p c : List ℕ} → Completes p c → Completion p c
 completes-completion complete = record { size = refl; settled = λ i o. absurd (omega (arith, o .0)); kept = λ i l n. refl }
 completes-completion (takes k) = earlier 0 1 (λ e. inl refl) (λ n. absurd (n refl)) (completes-completion k)
@@ -86,6 +88,7 @@ completes-completion (keeps {m} k) = earlier (suc m) (suc m) (λ e. absurd (omeg
 -- ---------------------------------------------------------------------------
 -- No completion is of some kind
 
+-- the negation of a test that cannot hold
 not-so : (b : Bool) → (b ≡ true → ⊥) → not b ≡ true
 not-so true h = absurd (h refl)
 not-so false h = refl
@@ -93,20 +96,24 @@ not-so false h = refl
 -- a test holds of no element of `completions` exactly when it holds of no completion
 none-test : (f : List ℕ → Bool) (p : List ℕ) → (noneOf f (completions p) ≡ true) ↔ ((c : List ℕ) → Completion p c → f c ≡ true → ⊥)
 unfolding noneOf
-none-test f p =
-    (λ e c h t. false≢true (sym (not-true (f c) (each-complete (λ x. not (f x)) p c e (completion-completes p c h))) ∙ t),
-    λ n. all-complete (λ x. not (f x)) p (λ c k. not-so (f c) (n c (completes-completion k))))
+none-test f p = (
+  λ e c h t. false≢true (sym (not-true (f c) (each-complete (λ x. not (f x)) p c e (completion-completes p c h))) ∙ t),
+  λ n. all-complete (λ x. not (f x)) p (λ c k. not-so (f c) (n c (completes-completion k))),
+)
 
 module _ (s : List ℕ) (percent : ℕ) (p : List ℕ) where
+  -- no completion passes
   pub none-passes : (noneOf (passing (tableOf s) percent) (completions p) ≡ true) ↔ NonePasses s p percent
   unfolding passing passes
   none-passes =
       let law = none-test (passing (tableOf s) percent) p in
       (λ e c h l. law .0 e c h (lt-ltb _ _ l), λ n. law .1 (λ c h t. n c h (ltb-true _ _ t)))
 
+  -- no passing completion leaves line i
   pub none-leaves : (i : ℕ) → (noneOf (λ c. passing (tableOf s) percent c && leaves c i) (completions p) ≡ true) ↔ NoneLeaves s p percent i
   unfolding passing passes leaves
   none-leaves i =
-      let law = none-test (λ c. passing (tableOf s) percent c && leaves c i) p in
-      (λ e c h l x. law .0 e c h (and-true-both _ _ (lt-ltb _ _ l) (eq-eqb _ 2 x)),
-      λ n. law .1 (λ c h t. let r = both (passing (tableOf s) percent c) t in n c h (ltb-true _ _ (r .0)) (eqb-true _ 2 (r .1))))
+      let law = none-test (λ c. passing (tableOf s) percent c && leaves c i) p in (
+        λ e c h l x. law .0 e c h (and-true-both _ _ (lt-ltb _ _ l) (eq-eqb _ 2 x)),
+        λ n. law .1 (λ c h t. let r = both (passing (tableOf s) percent c) t in n c h (ltb-true _ _ (r .0)) (eqb-true _ 2 (r .1))),
+      )
