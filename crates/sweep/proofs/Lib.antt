@@ -1,1 +1,3 @@
 -- The laws of the pass down, of the drops and of the filter, and demand 3.
+pub mod Completing
+pub mod Demanded

@@ -1,0 +1,261 @@
+-- Demand 3: what `sweep` and `filter` promise is what the briefing demands of them.
+-- Assumes nothing.
+use Prim.Native.Nat.{ℕ, zero, suc, _+_, _≤_, _<_}
+use native.Mathlib.Nat.{add-zero, zero-add}
+use native.Mathlib.Omega.{arith}
+use mathlib.Core.Path.{_≡_, refl, ap, sym, _∙_}
+use mathlib.Core.Bool.{Bool, true, false, cond, _&&_, false≢true}
+use mathlib.Core.Logic.{_↔_}
+use mathlib.Core.Option.{none}
+use mathlib.Core.List.{List}
+use lib.ListN.{length, getD, set}
+use lib.Dec.{eqb, ltb}
+use borrow.Author.Tests.{eqb-true, eq-eqb, le-ltb}
+use Rattle.diagram.specs.Table.{tableOf, choiceCount}
+use Rattle.diagram.specs.Score.{score}
+use Rattle.diagram.specs.Plans.{completions, openTaken, isOpen, upperBound, derivative, derivatives, noneOf, passing, forced, forcedPlan, countOf, forcedCount}
+use Rattle.diagram.specs.Checks.{placeZero, firstPlace, planMarkFault, percentFault, bufferFault, sweepChecks, filterChecks}
+use Rattle.diagram.specs.Services.{refused, answered, written, Sweeping, Filtering, sweepOutcome, filtering, filterOutcome, filterBuffer}
+use Rattle.diagram.proofs.Every.{both, and-true-both, both-ways}
+use Rattle.diagram.proofs.Places.{sequence-length, sequence-at}
+use Rattle.diagram.proofs.Checked.{checked-passes, checked-end, read-answers, Passed, read-passed}
+use Rattle.diagram.proofs.Rising.{drop-le-bound}
+use Rattle.reading.proofs.Accepted.{passed-formed, passed-monotone}
+use Rattle.scoring.proofs.Requests.{length-fits}
+use Rattle.sweep.specs.declared.answer.SweepAnswer.{SweepAnswer}
+use Rattle.sweep.specs.declared.answer.SweepAnswer.the-variants as sweep
+use Rattle.sweep.specs.declared.answer.FilterAnswer.{FilterAnswer}
+use Rattle.sweep.specs.declared.answer.FilterAnswer.the-variants as filter
+use Rattle.sweep.specs.Answer.{sweepOf, filterOf}
+use Rattle.sweep.specs.Demand.{Accepted, LegalMarking, Open, NonePasses, NoneLeaves, SweepHolds, FilterHolds, Demand3}
+use Rattle.sweep.proofs.Completing.{open-test, test-open, closed-test, none-passes, none-leaves}
+
+-- ---------------------------------------------------------------------------
+-- The checks
+
+-- a range with no place at fault
+no-place : (fault : ℕ → Bool) (i n : ℕ) → ((k : ℕ) → k < n → fault (i + k) ≡ false) → firstPlace fault i n ≡ none
+unfolding firstPlace
+no-place fault i zero h = refl
+no-place fault i (suc n) h =
+    let here : fault i ≡ false = rw add-zero at (h 0 (omega arith)) in
+    rw (here, firstPlace)
+    (no-place fault (suc i) n (λ k l. let on : suc i + k ≡ i + suc k = omega arith in rw on (h (suc k) (omega arith))))
+
+-- marks of at most 2 pass check 22
+marks-fit : (p s : List ℕ) → ((i : ℕ) → i < length p → getD p i 0 ≤ 2) → planMarkFault p s ≡ none
+unfolding planMarkFault
+marks-fit p s h = no-place (λ i. ltb 2 (getD p i 0)) 0 (length p) (λ k l. rw zero-add (le-ltb 2 _ (h k l)))
+
+-- a percentage passes check 23
+percent-fits : (percent : ℕ) (s : List ℕ) → percent ≤ 100 → percentFault percent s ≡ none
+unfolding percentFault placeZero
+percent-fits percent s h = rw (le-ltb 100 percent h) refl
+
+-- a buffer of one place a choice passes check 25
+buffer-fits : (size : ℕ) (s : List ℕ) → size ≡ choiceCount (tableOf s .variables) → bufferFault size s ≡ none
+unfolding bufferFault placeZero
+buffer-fits size s e = rw (eq-eqb _ _ e) refl
+
+module _ (s p : List ℕ) (read : Accepted s) (legal : LegalMarking s p) (size : ℕ) (fits : size ≡ length p) where
+  -- what the sweep answers to a legal marking of an accepted table
+  sweep-answers : sweepOutcome s p size ≡ answered (record { upperBound = upperBound (tableOf s) p; derivatives = derivatives (tableOf s) p })
+  unfolding sweepOutcome sweepChecks
+  sweep-answers =
+      read-answers s _ _ _ read
+      ∙ checked-passes _ _ _ s (length-fits p s (legal .size))
+      ∙ checked-passes _ _ _ s (marks-fit p s (legal .marks))
+      ∙ checked-passes _ _ _ s (buffer-fits size s (fits ∙ legal .size))
+      ∙ checked-end _ s
+
+  -- what the filter answers to one, 31 or the forced lines
+  filter-answers : (percent : ℕ) → percent ≤ 100 → filterOutcome s p percent size ≡ filtering (tableOf s) percent p
+  unfolding filterOutcome filterChecks
+  filter-answers percent h =
+      read-answers s _ _ _ read
+      ∙ checked-passes _ _ _ s (length-fits p s (legal .size))
+      ∙ checked-passes _ _ _ s (marks-fit p s (legal .marks))
+      ∙ checked-passes _ _ _ s (percent-fits percent s h)
+      ∙ checked-passes _ _ _ s (buffer-fits size s (fits ∙ legal .size))
+      ∙ checked-end _ s
+
+-- ---------------------------------------------------------------------------
+-- The sweep
+
+-- an answer with its buffer that stands for a top and drops
+bound-is : (answer : SweepAnswer) (drops : List ℕ) {x : ℕ} {ds : List ℕ} → sweepOf answer drops ≡ answered (record { upperBound = x; derivatives = ds }) → (answer ≡ sweep.Bound x) × (drops ≡ ds)
+unfolding sweepOf
+bound-is (sweep.Bound y) drops {x} {ds} e =
+    let q : _≡_ {A = Sweeping} (record { upperBound = y; derivatives = drops }) (record { upperBound = x; derivatives = ds }) = cc in
+    (ap (λ (a : Sweeping). sweep.Bound (a .upperBound)) q, ap (λ (a : Sweeping). a .derivatives) q)
+bound-is (sweep.Refused r) drops e =
+    let z : _≡_ {A = ℕ} 0 1 = cc in
+    absurd (omega arith)
+
+module _ (s p : List ℕ) where
+  -- the drop written for a line
+  drop-at : (i : ℕ) → i < length p → getD (derivatives (tableOf s) p) i 0 ≡ derivative (tableOf s) p i
+  unfolding derivatives
+  drop-at i l = sequence-at (derivative (tableOf s) p) 0 (length p) i 0 l ∙ rw zero-add
+
+  -- an open line's drop and the score with it left come to the top
+  drop-open : Passed s → (i : ℕ) → Open p i → getD (derivatives (tableOf s) p) i 0 + score (tableOf s) (openTaken (set p i 2)) ≡ score (tableOf s) (openTaken p)
+  unfolding upperBound
+  drop-open h i o = rw (drop-at i (o .0)) (drop-le-bound (tableOf s) (passed-formed h) (passed-monotone h) p i (open-test p i o))
+
+  -- the drop of any other line
+  drop-other : (i : ℕ) → i < length p → (getD p i 0 ≡ 0 → ⊥) → getD (derivatives (tableOf s) p) i 0 ≡ 0
+  unfolding derivative
+  drop-other i l n = drop-at i l ∙ rw (closed-test p i l n) refl
+
+  -- what is demanded of the top and the drops
+  sweep-holds : Passed s → SweepHolds s p (sweep.Bound (upperBound (tableOf s) p)) (derivatives (tableOf s) p)
+  unfolding upperBound derivatives
+  sweep-holds h =
+      record {
+        size = sequence-length (derivative (tableOf s) p) 0 (length p);
+        top = refl;
+        openLine = drop-open h;
+        otherLine = drop-other;
+      }
+
+-- ---------------------------------------------------------------------------
+-- The filter
+
+-- an answer with its buffer that stands for a number of lines and a plan
+forced-is : (answer : FilterAnswer) (plan : List ℕ) {n : ℕ} {q : List ℕ} → filterOf answer plan ≡ answered (record { forced = n; plan = q }) → (answer ≡ filter.Forced n) × (plan ≡ q)
+unfolding filterOf
+forced-is (filter.Forced m) plan {n} {q} e =
+    let same : _≡_ {A = Filtering} (record { forced = m; plan = plan }) (record { forced = n; plan = q }) = cc in
+    (ap (λ (a : Filtering). filter.Forced (a .forced)) same, ap (λ (a : Filtering). a .plan) same)
+forced-is (filter.Refused r) plan e =
+    let z : _≡_ {A = ℕ} 0 1 = cc in
+    absurd (omega arith)
+
+-- an answer that stands for a refusal
+refused-is : (answer : FilterAnswer) (plan : List ℕ) {n i : ℕ} → filterOf answer plan ≡ refused n i → answer ≡ filter.Refused (record { number = n; place = i })
+unfolding filterOf
+refused-is (filter.Forced m) plan e =
+    let z : _≡_ {A = ℕ} 0 1 = cc in
+    absurd (omega arith)
+refused-is (filter.Refused r) plan {n} {i} e =
+    let a : r .number ≡ n = cc in
+    let b : r .place ≡ i = cc in
+    rw (← a, ← b) refl
+
+-- two tests that agree below n hold of as many numbers
+count-same : (f g : ℕ → Bool) (n : ℕ) → ((i : ℕ) → i < n → f i ≡ g i) → countOf f n ≡ countOf g n
+unfolding countOf
+count-same f g zero h = refl
+count-same f g (suc n) h =
+    let rest = count-same f g n (λ i l. h i (omega arith)) in
+    let last = h n (omega arith) in
+    rw (rest, last)
+
+-- an open mark that is 1 after the filter was forced
+cond-one : (b : Bool) (m : ℕ) → m ≡ 0 → cond b 1 m ≡ 1 → b ≡ true
+cond-one true m z e = refl
+cond-one false m z e = absurd (omega arith)
+
+module _ (s p : List ℕ) (percent : ℕ) where
+  -- the test of a forced line, and the plan with forced lines taken
+  abbrev isForced : ℕ → Bool
+  isForced = forced (tableOf s) percent p
+
+  abbrev marks : List ℕ
+  marks = forcedPlan (tableOf s) percent p
+
+  -- the mark written for a line
+  mark-at : (i : ℕ) → i < length p → getD marks i 0 ≡ cond (isForced i) 1 (getD p i 0)
+  unfolding forcedPlan
+  mark-at i l = sequence-at (λ j. cond (isForced j) 1 (getD p j 0)) 0 (length p) i 0 l ∙ rw zero-add
+
+  -- a forced line is open, and no passing way leaves it
+  forced-open : (i : ℕ) → i < length p → isForced i ≡ true → Open p i × NoneLeaves s p percent i
+  unfolding forced
+  forced-open i l e = let r = both (isOpen p i) e in (test-open p i l (r .0), none-leaves s percent p i .0 (r .1))
+
+  -- an open line that no passing way leaves is forced
+  open-forced : (i : ℕ) → Open p i → NoneLeaves s p percent i → isForced i ≡ true
+  unfolding forced
+  open-forced i o n = and-true-both _ _ (open-test p i o) (none-leaves s percent p i .1 n)
+
+  -- an open line is taken exactly when no passing way leaves it
+  takes-line : (i : ℕ) → Open p i → (getD marks i 0 ≡ 1) ↔ NoneLeaves s p percent i
+  takes-line i o = (
+    λ e. forced-open i (o .0) (cond-one (isForced i) _ (o .1) (sym (mark-at i (o .0)) ∙ e)) .1,
+    λ n. mark-at i (o .0) ∙ rw (open-forced i o n) refl,
+  )
+
+  -- the mark of any other line is kept
+  keeps-line : (i : ℕ) → i < length p → (Open p i → NoneLeaves s p percent i → ⊥) → getD marks i 0 ≡ getD p i 0
+  keeps-line i l n = mark-at i l ∙ go (isForced i) (λ e. let r = forced-open i l e in n (r .0) (r .1))
+    where
+      go : (b : Bool) → (b ≡ true → ⊥) → cond b 1 (getD p i 0) ≡ getD p i 0
+      go true h = absurd (h refl)
+      go false h = refl
+
+  -- the lines that were open and are taken now are the forced ones
+  counts-lines : forcedCount (tableOf s) percent p ≡ countOf (λ i. eqb (getD p i 0) 0 && eqb (getD marks i 0) 1) (length p)
+  unfolding forcedCount
+  counts-lines = count-same isForced (λ i. eqb (getD p i 0) 0 && eqb (getD marks i 0) 1) (length p) (λ i l. both-ways _ _ (to i l) (from i l))
+    where
+      to : (i : ℕ) → i < length p → isForced i ≡ true → (eqb (getD p i 0) 0 && eqb (getD marks i 0) 1) ≡ true
+      to i l e = and-true-both _ _ (eq-eqb _ 0 (forced-open i l e .0 .1)) (eq-eqb _ 1 (mark-at i l ∙ rw e refl))
+
+      from : (i : ℕ) → i < length p → (eqb (getD p i 0) 0 && eqb (getD marks i 0) 1) ≡ true → isForced i ≡ true
+      from i l e =
+          let r = both (eqb (getD p i 0) 0) e in
+          cond-one (isForced i) _ (eqb-true _ 0 (r .0)) (sym (mark-at i l) ∙ eqb-true _ 1 (r .1))
+
+  -- where no way passes
+  refuses-holds : NonePasses s p percent → (held : List ℕ) → length held ≡ length p → FilterHolds s p percent (filter.Refused (record { number = 31; place = 0 })) held
+  refuses-holds no-way held fits =
+      record {
+        size = fits;
+        refuses = (λ e. no-way, λ n. refl);
+        takes = λ f. absurd (f no-way);
+        keeps = λ f. absurd (f no-way);
+        counts = λ f. absurd (f no-way);
+      }
+
+  -- where some way passes
+  forces-holds : (NonePasses s p percent → ⊥) → FilterHolds s p percent (filter.Forced (forcedCount (tableOf s) percent p)) marks
+  unfolding forcedPlan
+  forces-holds some =
+      record {
+        size = sequence-length _ 0 (length p);
+        refuses = (λ e. let z : _≡_ {A = ℕ} 0 1 = cc in absurd (omega arith), λ n. absurd (some n));
+        takes = λ f. takes-line;
+        keeps = λ f. keeps-line;
+        counts = λ f. ap filter.Forced counts-lines;
+      }
+
+  -- the filter's answer and buffer, by whether any way passes
+  filter-holds : (held plan : List ℕ) (answer : FilterAnswer) → length held ≡ length p → filterOf answer plan ≡ filtering (tableOf s) percent p → plan ≡ written (λ a. a .plan) (filtering (tableOf s) percent p) held → FilterHolds s p percent answer plan
+  unfolding filtering written
+  filter-holds held plan answer fits e b = go (noneOf (passing (tableOf s) percent) (completions p)) refl
+    where
+      go : (c : Bool) → noneOf (passing (tableOf s) percent) (completions p) ≡ c → FilterHolds s p percent answer plan
+      go true q =
+          let is = refused-is answer plan (rw q at e) in
+          let same : plan ≡ held = rw q at b in
+          rw (is, same) (refuses-holds (none-passes s percent p .0 q) held fits)
+      go false q =
+          let is = forced-is answer plan (rw q at e) in
+          rw (is .0, is .1) (forces-holds (λ n. false≢true (sym q ∙ none-passes s percent p .1 n)))
+
+-- ---------------------------------------------------------------------------
+-- Both
+
+-- demand 3: the promises of `sweep` and `filter` are turned into what is demanded
+pub demand-3 : Demand3
+unfolding Demand3 filterBuffer
+demand-3 s p read legal = (
+  λ held drops answer fits e b.
+      let is = bound-is answer drops (e ∙ sweep-answers s p read legal (length held) fits) in
+      rw (is .0, is .1) (sweep-holds s p (read-passed s _ read)),
+  λ percent held plan answer h fits e b.
+      let is = filter-answers s p read legal (length held) fits percent h in
+      filter-holds s p percent held plan answer fits (e ∙ is) (b ∙ rw is refl),
+)
