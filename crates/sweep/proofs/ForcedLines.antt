@@ -1,17 +1,22 @@
 -- No completion passes exactly when the top does not, and a line is forced exactly when it is open and the top less its drop does not pass: what the
--- filter tests is what brute force over all completions finds.
--- Assumes of the table what checks 17 and 18 find: `Formed` and `Monotone`.
-use Prim.Native.Nat.{ℕ, _+_, _-_, _*_, _≤_}
+-- filter tests is what brute force over all completions finds. Then the steps of the tests and of the loop that takes the forced lines.
+-- Assumes of the table what checks 17 and 18 find, `Formed` and `Monotone`, and in the tests of a turn that the top and the drops are the plan's: `Swept`.
+use Prim.Native.Nat.{ℕ, zero, suc, _+_, _-_, _*_, _≤_, _<_}
+use native.Mathlib.Nat.{zero-add}
+use native.Mathlib.Numerals.{add-one}
 use native.Mathlib.Omega.{arith}
-use mathlib.Core.Path.{_≡_, refl, sym, _∙_}
-use mathlib.Core.Bool.{Bool, true, false, not, _&&_, false≢true}
-use mathlib.Core.List.{List}
-use borrow.Author.Tests.{ltb-true, lt-ltb}
-use lib.ListN.{length, set}
-use Rattle.diagram.specs.Table.{Table, scale}
+use mathlib.Core.Path.{_≡_, refl, ap, sym, _∙_}
+use mathlib.Core.Bool.{Bool, true, false, cond, not, _&&_, false≢true}
+use mathlib.Core.List.{List, [], _∷_, append-nil}
+use borrow.Author.Tests.{ltb-true, lt-ltb, eq-eqb, ne-eqb}
+use lib.ListN.{length, getD, set}
+use lib.Seq.{drop-length}
+use lib.Dec.{eqb, ltb}
+use Rattle.diagram.specs.Table.{Table, scale, sequence}
 use Rattle.diagram.specs.Score.{score}
-use Rattle.diagram.specs.Plans.{completions, openTaken, isOpen, leaves, upperBound, derivative, passes, noneOf, passing, forced}
+use Rattle.diagram.specs.Plans.{completions, openTaken, isOpen, leaves, upperBound, derivative, passes, noneOf, passing, forced, forcedPlan, countOf, forcedCount}
 use Rattle.diagram.proofs.Every.{both-ways}
+use Rattle.diagram.proofs.Places.{sequence-length, sequence-snoc}
 use Rattle.diagram.proofs.Truth.{Formed}
 use Rattle.diagram.proofs.Rising.{
   Monotone,
@@ -23,6 +28,9 @@ use Rattle.diagram.proofs.Rising.{
   leaving-le,
   drop-le-bound,
 }
+use Rattle.scoring.specs.Passes.{over}
+use Rattle.scoring.proofs.Over.{over-next}
+use Rattle.sweep.specs.Drops.{Swept}
 
 -- ---------------------------------------------------------------------------
 -- Tests
@@ -100,3 +108,78 @@ module _ (t : Table) (formed : Formed (length (t .variables)) (t .records)) (mon
   pub forced-is : (percent : ℕ) (p : List ℕ) (i : ℕ) → forced t percent p i ≡ (isOpen p i && not (passes t percent (upperBound t p - derivative t p i)))
   unfolding forced
   forced-is percent p i = and-alike (isOpen p i) _ _ (λ o. rw (left-score p i o) (none-leaves percent p i o))
+
+-- ---------------------------------------------------------------------------
+-- The tests of a turn
+
+-- a score passes when y, 100 times it, is more than x, the percentage of the table's scale
+pub passes-is : (t : Table) (percent score : ℕ) {x y : ℕ} {r : Bool} → x ≡ percent * scale t → y ≡ 100 * score → r ≡ ltb x y → r ≡ passes t percent score
+unfolding passes
+passes-is t percent score e e′ q = rw (← e, ← e′) q
+
+-- a closed line is not forced
+pub closed-line : (mark : ℕ) (fails : Bool) → (mark ≡ 0 → ⊥) → false ≡ (eqb mark 0 && fails)
+closed-line mark fails h = rw (ne-eqb mark 0 h) refl
+
+-- an open line is forced when its test says so
+pub open-line : (mark : ℕ) {r fails : Bool} → mark ≡ 0 → r ≡ fails → r ≡ (eqb mark 0 && fails)
+open-line mark h e = rw (eq-eqb mark 0 h) e
+
+getD-within : (p : List ℕ) (i : ℕ) → i < length p → getD p i 0 ≡ getD p i 1
+getD-within [] i h = absurd (omega arith)
+getD-within (m ∷ p) zero h = refl
+getD-within (m ∷ p) (suc i) h = getD-within p i (omega arith)
+
+module _ {t : Table} {p : List ℕ} {percent b bound : ℕ} {drops : List ℕ} (s : Swept t p percent b bound drops) where
+  -- no drop is larger than the top
+  pub drop-within : (i : ℕ) → i < length p → getD drops i 0 ≤ bound
+  unfolding derivative
+  drop-within i h = rw (s .derivatives i h, s .top .0) (go (isOpen p i) (upperBound t p) (score t (openTaken (set p i 2))))
+    where
+      go : (o : Bool) (x y : ℕ) → cond o (x - y) 0 ≤ x
+      go true x y = omega arith
+      go false x y = omega arith
+
+  -- what a turn tests, its line's mark and its line's drop, is whether the line is forced
+  pub forced-turn : (i : ℕ) → i < length p → {mark drop : ℕ} {r : Bool} → mark ≡ getD p i 0 → drop ≡ getD drops i 0 → r ≡ (eqb mark 0 && not (passes t percent (bound - drop))) → forced t percent p i ≡ r
+  unfolding isOpen
+  forced-turn i h {mark} {drop} m d r =
+      forced-is t (s .formed) (s .monotone) percent p i
+      ∙ rw (r, m, d, s .derivatives i h, s .top .0, getD-within p i h) refl
+
+-- ---------------------------------------------------------------------------
+-- The loop that takes the forced lines
+
+-- After i turns the forced ones of the first i lines are counted, and the first i marks of the forced plan are written over the buffer
+pub record Forcing (t : Table) (percent : ℕ) (p old : List ℕ) (i count : ℕ) (out : List ℕ) : Type 0 where
+  pub counted : count ≡ countOf (forced t percent p) i
+  pub written : out ≡ over (sequence (λ i. cond (forced t percent p i) 1 (getD p i 0)) 0 i) old
+
+module _ {t : Table} {percent : ℕ} {p old : List ℕ} where
+  pub forcing-start : Forcing t percent p old 0 0 old
+  unfolding countOf over sequence
+  forcing-start = record { counted = refl; written = refl }
+
+  module _ {i count : ℕ} {out : List ℕ} (f : Forcing t percent p old i count out) (h : i < length old) {x n : ℕ} where
+    forcing-next : x ≡ cond (forced t percent p i) 1 (getD p i 0) → n ≡ count + cond (forced t percent p i) 1 0 → Forcing t percent p old (i + 1) n (set out i x)
+    unfolding countOf
+    forcing-next e k =
+        let marks : ℕ → ℕ = λ i. cond (forced t percent p i) 1 (getD p i 0) in
+        record {
+          counted = rw (add-one i) (k ∙ ap (λ (z : ℕ). z + cond (forced t percent p i) 1 0) (f .counted));
+          written = rw (f .written, e, add-one i) (over-next (sequence marks 0 i) old i (marks i) (sequence-length marks 0 i) h ∙ ap (λ (l : List ℕ). over l old) (rw zero-add at (sequence-snoc marks 0 i)));
+        }
+
+    -- a forced line is counted once and taken
+    pub forcing-taken : forced t percent p i ≡ true → x ≡ 1 → n ≡ count + 1 → Forcing t percent p old (i + 1) n (set out i x)
+    forcing-taken q e k = forcing-next (rw q e) (rw q k)
+
+    -- any other line keeps its mark
+    pub forcing-kept : forced t percent p i ≡ false → x ≡ getD p i 0 → n ≡ count → Forcing t percent p old (i + 1) n (set out i x)
+    forcing-kept q e k = forcing-next (rw q e) (rw q (omega arith))
+
+  -- after the last turn
+  pub forcing-end : {i count : ℕ} {out : List ℕ} → Forcing t percent p old i count out → length old ≡ length p → i ≡ length p → (count ≡ forcedCount t percent p) × (out ≡ forcedPlan t percent p)
+  unfolding forcedCount forcedPlan over
+  forcing-end f size e =
+      (rw e at (f .counted), (rw e at (f .written)) ∙ rw (sequence-length, ← size, drop-length, append-nil))
