@@ -2,3 +2,4 @@
 pub mod Completing
 pub mod Demanded
 pub mod ForcedLines
+pub mod Transposing
