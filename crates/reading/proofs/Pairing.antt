@@ -1,6 +1,6 @@
 -- The arrays by node number hold a table's records, and a pair of nodes implies where the two pairs that it leads to do.
 -- Assumes of the records what check 17 finds, where a law says so: see `Formed`.
-use Prim.Native.Nat.{ℕ, zero, suc, _+_, _-_, _*_, _≤_, _<_, min}
+use Prim.Native.Nat.{ℕ, zero, suc, _+_, _-_, _≤_, _<_, min}
 use native.Mathlib.Nat.{zero-add, eq-or-lt-of-le}
 use native.Mathlib.Decide.{decLt}
 use native.Mathlib.Omega.{arith}

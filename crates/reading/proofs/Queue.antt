@@ -5,18 +5,16 @@ use native.Mathlib.Nat.{le-refl, eq-or-lt-of-le}
 use native.Mathlib.Decide.{decLt}
 use native.Mathlib.Omega.{arith}
 use mathlib.Core.Path.{_≡_, refl, ap, sym, _∙_}
-use mathlib.Core.Bool.{Bool, true, false, cond, _&&_, false≢true}
+use mathlib.Core.Bool.{Bool, true, false, false≢true}
 use mathlib.Core.Logic.{_⊎_, inl, inr, ⊎-elim, by-cases}
 use mathlib.Core.List.{List, [], _∷_}
 use mathlib.Mathlib.Data.Bool.Basic.{eq-false-of-not-eq-true}
 use lib.ListN.{length, getD, set, replicate, length-set, length-replicate}
 use lib.Seq.{getD-set-same, getD-set-other}
-use lib.Dec.{leb}
 use borrow.Author.Tests.{le-leb}
-use Rattle.diagram.specs.Table.{Record, tableOf, recordCount, variableOf, isChoice}
+use Rattle.diagram.specs.Table.{Record, recordCount, variableOf, isChoice}
 use Rattle.diagram.specs.Words.{wordAt}
 use Rattle.diagram.specs.Score.{implies}
-use Rattle.diagram.specs.Checks.{isMonotoneAt}
 use Rattle.diagram.proofs.Every.{both, and-true-both}
 use Rattle.diagram.proofs.Implication.{implies-false-end, implies-true-end, implies-same, implies-ends}
 use Rattle.reading.specs.Nodes.{recordsOf, endOf, Held, Pairs, next, cell, AtOnce, zeros, Marked, Room, Passed, Waits, Queue, Explored}
@@ -63,6 +61,7 @@ zeros-first [] e = absurd (omega arith)
 zeros-first (zero ∷ l) e = absurd (omega arith)
 zeros-first (suc x ∷ l) e = omega (arith, zeros-le l)
 
+-- a cell of zeros
 zeros-at : (n i : ℕ) → _≡_ {A = ℕ} (getD (replicate n 0) i 0) 0
 zeros-at zero i = refl
 zeros-at (suc n) zero = refl
@@ -71,7 +70,7 @@ zeros-at (suc n) (suc i) = zeros-at n i
 -- ---------------------------------------------------------------------------
 -- The start
 
--- every cell is 0
+-- where every cell is 0, no pair is marked
 pub marked-none : {met : List ℕ} → met ≡ replicate 65536 0 → Marked met
 marked-none e =
     rw e (record {
@@ -115,6 +114,7 @@ at-once v rs m n (inl e) = rw e (implies-false-end v rs n)
 at-once v rs m n (inr (inl e)) = rw e (implies-true-end v rs m)
 at-once v rs m n (inr (inr e)) = rw e (implies-same v rs n)
 
+-- the queue with nothing in it
 pub start : {ps hs ls met firsts seconds : List ℕ} → Pairs ps hs ls → Marked met → getD met 0 0 ≡ 1 → length firsts ≡ 65536 → length seconds ≡ 65536 → Queue ps hs ls met firsts seconds 0 0 0 0
 start {ps} {hs} {ls} {met} pairs marked first p q =
     let size = marked .size in
@@ -236,7 +236,7 @@ module _ {ps hs ls met firsts seconds met′ firsts′ seconds′ : List ℕ} {c
       record { slot = tail; from = order; below = omega arith; first = first-new ∙ sym p; second = second-new ∙ sym q }
 
   -- the queue with one more pair met, for a pair p, q that has been met: m, n and the pair that was asked before imply if it does
-  pub meet : (p q : ℕ) → cell met′ p q ≡ 1 → (implies (endOf ps) (recordsOf ps hs ls) p q ≡ true → (implies (endOf ps) (recordsOf ps hs ls) c d ≡ true) × (implies (endOf ps) (recordsOf ps hs ls) m n ≡ true)) → Queue ps hs ls met′ firsts′ seconds′ p q head tail′
+  meet : (p q : ℕ) → cell met′ p q ≡ 1 → (implies (endOf ps) (recordsOf ps hs ls) p q ≡ true → (implies (endOf ps) (recordsOf ps hs ls) c d ≡ true) × (implies (endOf ps) (recordsOf ps hs ls) m n ≡ true)) → Queue ps hs ls met′ firsts′ seconds′ p q head tail′
   meet p q asked sound =
       let order = h .order in
       let end = g .end in
@@ -272,7 +272,7 @@ module _ {ps hs ls : List ℕ} (pairs : Pairs ps hs ls) (m n : ℕ) where
       rw (le-leb (getD ps m 0) (getD ps n 0) (omega (arith, end-position m l, end-position n k))) (zero-ends m l)
 
   -- where m implies n, so do both pairs that they lead to
-  pub implied-next : m < 256 → n < 256 → implies (endOf ps) (recordsOf ps hs ls) m n ≡ true → (implies (endOf ps) (recordsOf ps hs ls) (next ps hs m n) (next ps hs n m) ≡ true) × (implies (endOf ps) (recordsOf ps hs ls) (next ps ls m n) (next ps ls n m) ≡ true)
+  implied-next : m < 256 → n < 256 → implies (endOf ps) (recordsOf ps hs ls) m n ≡ true → (implies (endOf ps) (recordsOf ps hs ls) (next ps hs m n) (next ps hs n m) ≡ true) × (implies (endOf ps) (recordsOf ps hs ls) (next ps ls m n) (next ps ls n m) ≡ true)
   implied-next lm ln e =
       by-cases (decLt (max m n) 2)
       (λ l. (rw (ends-next hs (pairs .highEnds) (omega arith) (omega arith)) (implies-false-end _ _ _), rw (ends-next ls (pairs .lowEnds) (omega arith) (omega arith)) (implies-false-end _ _ _)))
@@ -333,7 +333,7 @@ module _ {ps hs ls met firsts seconds met₁ firsts₁ seconds₁ : List ℕ} {a
 
 module _ {ps hs ls met firsts seconds : List ℕ} {a b tail : ℕ} (h : Queue ps hs ls met firsts seconds a b tail tail) where
   -- the pair of true and false does not imply
-  pub refuted : (getD met 256 0 ≡ 0 → ⊥) → implies (endOf ps) (recordsOf ps hs ls) a b ≡ false
+  refuted : (getD met 256 0 ≡ 0 → ⊥) → implies (endOf ps) (recordsOf ps hs ls) a b ≡ false
   refuted e =
       let bit = h .room .bits 256 in
       eq-false-of-not-eq-true (λ t. false≢true (sym (implies-ends _ _) ∙ h .right t 1 0 (omega arith) (omega arith) (omega arith)))

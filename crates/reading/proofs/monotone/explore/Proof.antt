@@ -3,7 +3,6 @@
 use Prim.Native.Nat.{ℕ, _-_}
 use native.Mathlib.Omega.{arith}
 use mathlib.Core.Path.{_≡_}
-use borrow.Author.Needs.{needs}
 use Rattle.reading.specs.Nodes.{Queue}
 use Rattle.reading.proofs.monotone.explore.Statement.{statement}
 use Rattle.reading.proofs.monotone.explore.Tie as tie

@@ -1,6 +1,8 @@
 -- `meet` meets its contract: there is room at the end of the queue. Assumes nothing.
-use Prim.Native.Nat.{_+_, _*_}
+use Prim.Native.Nat.{ℕ, _+_, _*_}
 use native.Mathlib.Omega.{arith}
+use mathlib.Core.Path.{ap}
+use lib.ListN.{set}
 use borrow.Author.Needs.{needs}
 use Rattle.reading.proofs.monotone.meet.Statement.{statement}
 use Rattle.reading.proofs.monotone.meet.Tie as tie
@@ -46,9 +48,10 @@ add-result c = search needs
 
 returns : tie.Need-returns
 returns c =
+    let start = c .before .before .before .before .before in
     let i = c .before .before .before .before .number .ensures in
     let j = c .before .before .before .number2 .ensures in
-    (rw (i, j), (rw (i, j), (rw (c .before .before .byte .ensures), rw (c .before .byte2 .ensures))))
+    (rw (i, j), (rw (i, j), (ap (λ (x : ℕ). set (start .args .firsts .now) (start .args .tail) x) (c .before .before .byte .ensures), ap (λ (x : ℕ). set (start .args .seconds .now) (start .args .tail) x) (c .before .byte2 .ensures))))
 
 pub meet-spec : {M : Type 1} → statement M
 meet-spec =

@@ -1,4 +1,4 @@
--- `step` meets its contract. Assumes nothing.
+-- `step` meets its contract: the positions are compared as `next` does. Assumes nothing.
 use borrow.Author.Tests.{le-leb, lt-leb}
 use native.Mathlib.Omega.{arith}
 use lib.ListN.{getD}
