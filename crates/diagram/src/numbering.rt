@@ -59,6 +59,13 @@ impl Node {
         self.0 as usize
     }
 
+    // The number as a byte, to be stored.
+    pub fn byte(self) -> u8
+        ensures { λ r. ⌜ r ≡ self .0 ⌝ }
+    {
+        self.0
+    }
+
     // The node of record k. Whoever calls has k below the number of records, which is at most 254.
     pub fn of_record(k: usize) -> Node
         requires { ⌜ k < 254 ⌝ }

@@ -1,16 +1,16 @@
--- The arrays by node number hold a table's records, and the memo of pairs stays right as pairs are decided by their children.
+-- The arrays by node number hold a table's records, and a pair of nodes implies where the two pairs that it leads to do.
 -- Assumes of the records what check 17 finds, where a law says so: see `Formed`.
-use Prim.Native.Nat.{ℕ, zero, suc, _+_, _-_, _*_, _≤_, _<_, min}
+use Prim.Native.Nat.{ℕ, zero, suc, _+_, _-_, _≤_, _<_, min}
 use native.Mathlib.Nat.{zero-add, eq-or-lt-of-le}
 use native.Mathlib.Decide.{decLt}
 use native.Mathlib.Omega.{arith}
 use mathlib.Core.Path.{_≡_, refl, ap, sym, _∙_}
 use mathlib.Core.Bool.{Bool, true, false, cond, not, _&&_, _||_}
-use mathlib.Core.Logic.{_⊎_, inl, inr, ⊎-elim, ⊎-map, by-cases}
-use mathlib.Core.List.{List, [], _∷_}
-use lib.ListN.{length, getD, set, replicate}
-use lib.Dec.{eqb}
-use borrow.Author.Tests.{ne-eqb, not-true, not-false}
+use mathlib.Core.Logic.{⊎-elim, by-cases}
+use mathlib.Core.List.{List}
+use lib.ListN.{length, getD}
+use lib.Dec.{eqb, leb}
+use borrow.Author.Tests.{eq-eqb, ne-eqb, le-leb, lt-leb}
 use Rattle.diagram.specs.Words.{wordAt}
 use Rattle.diagram.specs.Table.{chance, Record, recordAt, tableOf, variableOf, isChoice, variableCount, recordCount}
 use Rattle.diagram.specs.Score.{walk, truth, implies}
@@ -19,7 +19,7 @@ use Rattle.diagram.proofs.Places.{sequence-at, sequence-past}
 use Rattle.diagram.proofs.Truth.{Formed}
 use Rattle.diagram.proofs.Locality.{position-le, position-less}
 use Rattle.diagram.proofs.Implication.{hiOf, loOf, follow, follow-le, follow-less, implies-split}
-use Rattle.reading.specs.Nodes.{column, recordsOf, endOf, cellOf, Right, Pairs, Held, Decided, Known}
+use Rattle.reading.specs.Nodes.{column, recordsOf, endOf, Pairs, Held, next}
 use Rattle.reading.proofs.Counting.{variables-length}
 use Rattle.reading.proofs.Shape.{heading-records, record-past, shaped-formed}
 
@@ -73,7 +73,7 @@ module _ (rs rs′ : List Record) (same : (k : ℕ) → recordAt rs k ≡ record
 -- The arrays by node number
 
 -- where a node leads to at position x by the children in cs
-abbrev pub leads : (ps cs : List ℕ) → (x n : ℕ) → ℕ
+abbrev leads : (ps cs : List ℕ) → (x n : ℕ) → ℕ
 leads ps cs x n = cond (eqb (getD ps n 0) x) (getD cs n 0) n
 
 module _ (ps hs ls : List ℕ) (ends : getD ps 1 0 ≡ endOf ps) where
@@ -96,55 +96,6 @@ module _ (ps hs ls : List ℕ) (ends : getD ps 1 0 ≡ endOf ps) where
   pub follow-held : (b : Bool) (x n : ℕ) → x < endOf ps → n < 256 → follow (endOf ps) (recordsOf ps hs ls) x b n ≡ leads ps (cond b hs ls) x n
   follow-held true = arc-held true hs (λ k l. ap (λ (r : Record). r .hi) (held-at ps hs ls k l))
   follow-held false = arc-held false ls (λ k l. ap (λ (r : Record). r .lo) (held-at ps hs ls k l))
-
--- ---------------------------------------------------------------------------
--- The memo
-
-cell-true : (r : Bool) → cellOf r ≡ 1 → r ≡ true
-unfolding cellOf
-cell-true true e = refl
-cell-true false e = absurd (omega arith)
-
-cell-false : (r : Bool) → cellOf r ≡ 2 → r ≡ false
-unfolding cellOf
-cell-false true e = absurd (omega arith)
-cell-false false e = refl
-
-zeros-at : (n i : ℕ) → _≡_ {A = ℕ} (getD (replicate n 0) i 0) 0
-zeros-at zero i = refl
-zeros-at (suc n) zero = refl
-zeros-at (suc n) (suc i) = zeros-at n i
-
--- a cell where one is set: that one, or one that is as it was
-set-cell : (l : List ℕ) (i j x : ℕ) → ((j ≡ i) × (getD (set l i x) j 0 ≡ x)) ⊎ (getD (set l i x) j 0 ≡ getD l j 0)
-set-cell [] i j x = inr refl
-set-cell (y ∷ l) zero zero x = inl (refl, refl)
-set-cell (y ∷ l) zero (suc j) x = inr refl
-set-cell (y ∷ l) (suc i) zero x = inr refl
-set-cell (y ∷ l) (suc i) (suc j) x = ⊎-map (λ h. (ap suc (h .0), h .1)) (λ h. h) (set-cell l i j x)
-
-module _ (v : ℕ) (rs : List Record) where
-  -- the memo of zeros says nothing
-  pub right-zeros : (n : ℕ) → Right v rs (replicate n 0)
-  right-zeros n =
-      record {
-        implied = λ a b _ _ e. absurd (omega (arith, zeros-at n (a * 256 + b)));
-        refuted = λ a b _ _ e. absurd (omega (arith, zeros-at n (a * 256 + b)));
-      }
-
-  -- a memo that is right stays so where the cell of a decided pair is set
-  pub right-set : (memo : List ℕ) (m n : ℕ) (r : Bool) → m < 256 → n < 256 → Right v rs memo → r ≡ implies v rs m n → Right v rs (set memo (m * 256 + n) (cellOf r))
-  right-set memo m n r m-small n-small right decided =
-      record {
-        implied = λ a b la lb e. ⊎-elim (λ h. same a b la lb (h .0) ∙ cell-true r (sym (h .1) ∙ e)) (λ h. right .implied a b la lb (sym h ∙ e)) (set-cell memo (m * 256 + n) (a * 256 + b) (cellOf r));
-        refuted = λ a b la lb e. ⊎-elim (λ h. same a b la lb (h .0) ∙ cell-false r (sym (h .1) ∙ e)) (λ h. right .refuted a b la lb (sym h ∙ e)) (set-cell memo (m * 256 + n) (a * 256 + b) (cellOf r));
-      }
-    where
-      same : (a b : ℕ) → a < 256 → b < 256 → a * 256 + b ≡ m * 256 + n → implies v rs a b ≡ r
-      same a b la lb e =
-          let p : a ≡ m = omega arith in
-          let q : b ≡ n = omega arith in
-          rw (p, q) (sym decided)
 
 -- ---------------------------------------------------------------------------
 -- A pair by its children
@@ -175,69 +126,52 @@ module _ {v : ℕ} {rs : List Record} (h : Formed v rs) (m n x : ℕ) (met : m <
   pair-split : implies v rs m n ≡ (implies v rs (follow v rs x true m) (follow v rs x true n) && implies v rs (follow v rs x false m) (follow v rs x false n))
   pair-split = implies-split h x m n first-less (omega arith) (omega arith)
 
--- two nodes that are not both ends, with x the smaller of their positions as the arrays have them
-pub record Meets (ps hs ls : List ℕ) (m n x : ℕ) : Type 0 where
-  pub formed : Formed (endOf ps) (recordsOf ps hs ls)
-  pub ends : getD ps 1 0 ≡ endOf ps
+-- the smaller position of two nodes, as the arrays have it
+abbrev smaller : List ℕ → (m n : ℕ) → ℕ
+smaller ps m n = min (getD ps m 0) (getD ps n 0)
+
+-- a node moves on where it stands at the smaller position
+moves : (p q x : ℕ) → x ≡ min p q → eqb p x ≡ leb p q
+moves p q x e =
+    by-cases (decLt q p)
+    (λ l. ne-eqb p x (λ f. omega arith) ∙ sym (lt-leb p q l))
+    (λ l. eq-eqb p x (omega arith) ∙ sym (le-leb p q (omega arith)))
+
+-- two nodes that are not both ends
+pub record Meets (ps hs ls : List ℕ) (m n : ℕ) : Type 0 where
+  pub pairs : Pairs ps hs ls
   pub m-small : m < 256
   pub n-small : n < 256
   pub met : m < 2 → n < 2 → ⊥
-  pub first : x ≡ min (getD ps m 0) (getD ps n 0)
 
-module _ {ps hs ls : List ℕ} {m n x : ℕ} (h : Meets ps hs ls m n x) where
-  first-held : x ≡ min (positionOf (endOf ps) (recordsOf ps hs ls) m) (positionOf (endOf ps) (recordsOf ps hs ls) n)
-  first-held = rw (position-held ps hs ls (h .ends) m (h .m-small), position-held ps hs ls (h .ends) n (h .n-small)) (h .first)
+module _ {ps hs ls : List ℕ} {m n : ℕ} (h : Meets ps hs ls m n) where
+  first-held : smaller ps m n ≡ min (positionOf (endOf ps) (recordsOf ps hs ls) m) (positionOf (endOf ps) (recordsOf ps hs ls) n)
+  first-held =
+      rw (position-held ps hs ls (h .pairs .ends) m (h .m-small), position-held ps hs ls (h .pairs .ends) n (h .n-small))
 
-  before-ends : x < endOf ps
-  before-ends = first-less (h .formed) m n x (h .met) first-held
+  before-ends : smaller ps m n < endOf ps
+  before-ends = first-less (h .pairs .formed) m n _ (h .met) first-held
 
-  m-leads : (b : Bool) → follow (endOf ps) (recordsOf ps hs ls) x b m ≡ leads ps (cond b hs ls) x m
-  m-leads b = follow-held ps hs ls (h .ends) b x m before-ends (h .m-small)
+  m-next : (b : Bool) → follow (endOf ps) (recordsOf ps hs ls) (smaller ps m n) b m ≡ next ps (cond b hs ls) m n
+  m-next b =
+      rw (follow-held ps hs ls (h .pairs .ends) b (smaller ps m n) m before-ends (h .m-small), moves (getD ps m 0) (getD ps n 0) (smaller ps m n) refl)
 
-  n-leads : (b : Bool) → follow (endOf ps) (recordsOf ps hs ls) x b n ≡ leads ps (cond b hs ls) x n
-  n-leads b = follow-held ps hs ls (h .ends) b x n before-ends (h .n-small)
+  n-next : (b : Bool) → follow (endOf ps) (recordsOf ps hs ls) (smaller ps m n) b n ≡ next ps (cond b hs ls) n m
+  n-next b =
+      rw (follow-held ps hs ls (h .pairs .ends) b (smaller ps m n) n before-ends (h .n-small), moves (getD ps n 0) (getD ps m 0) (smaller ps m n) (omega arith))
 
-  -- the pair that m and n lead to has a smaller sum
-  pub leads-less : (b : Bool) → leads ps (cond b hs ls) x m + leads ps (cond b hs ls) x n < m + n
-  leads-less b = rw (← m-leads b, ← n-leads b) (pair-less (h .formed) m n x (h .met) first-held b)
+  -- neither number rises, and their sum falls
+  pub next-le : (b : Bool) → (next ps (cond b hs ls) m n ≤ m) × (next ps (cond b hs ls) n m ≤ n)
+  next-le b =
+      rw (← m-next b, ← n-next b) (follow-le (h .pairs .formed) (smaller ps m n) b m before-ends, follow-le (h .pairs .formed) (smaller ps m n) b n before-ends)
+
+  pub next-less : (b : Bool) → next ps (cond b hs ls) m n + next ps (cond b hs ls) n m < m + n
+  next-less b = rw (← m-next b, ← n-next b) (pair-less (h .pairs .formed) m n _ (h .met) first-held b)
 
   -- m implies n where both pairs that they lead to do
-  leads-split : implies (endOf ps) (recordsOf ps hs ls) m n ≡ (implies (endOf ps) (recordsOf ps hs ls) (leads ps hs x m) (leads ps hs x n) && implies (endOf ps) (recordsOf ps hs ls) (leads ps ls x m) (leads ps ls x n))
-  leads-split = rw (← m-leads true, ← n-leads true, ← m-leads false, ← n-leads false) (pair-split (h .formed) m n x (h .met) first-held)
-
-  pub leads-refuted : {a b : ℕ} {r : Bool} → a ≡ leads ps hs x m → b ≡ leads ps hs x n → r ≡ implies (endOf ps) (recordsOf ps hs ls) a b → not r ≡ true → false ≡ implies (endOf ps) (recordsOf ps hs ls) m n
-  leads-refuted {r} p q e f = rw (leads-split, ← p, ← q, ← e, not-true r f)
-
-  pub leads-implied : {a b c d : ℕ} {r u : Bool} → a ≡ leads ps hs x m → b ≡ leads ps hs x n → r ≡ implies (endOf ps) (recordsOf ps hs ls) a b → not r ≡ false → c ≡ leads ps ls x m → d ≡ leads ps ls x n → u ≡ implies (endOf ps) (recordsOf ps hs ls) c d → u ≡ implies (endOf ps) (recordsOf ps hs ls) m n
-  leads-implied {r} p q e f p′ q′ e′ = rw (leads-split, ← p, ← q, ← e, not-false r f, ← p′, ← q′) e′
-
-  -- the memo with the cell of m and n set, once they are decided
-  pub decided : {memo memo′ : List ℕ} {r a : Bool} → Right (endOf ps) (recordsOf ps hs ls) memo → r ≡ implies (endOf ps) (recordsOf ps hs ls) m n → a ≡ r → memo′ ≡ set memo (m * 256 + n) (cellOf r) → Decided ps hs ls memo′ m n a
-  decided {memo} {r} right e p q =
-      record { answer = p ∙ e; right = rw q (right-set (endOf ps) (recordsOf ps hs ls) memo m n r (h .m-small) (h .n-small) right e) }
-
--- ---------------------------------------------------------------------------
--- What is known of a pair at once
-
-module _ (v : ℕ) (rs : List Record) (m n : ℕ) where
-  pub known-implied : implies v rs m n ≡ true → Known v rs m n 1
-  known-implied h = record { implied = λ _. h; refuted = λ e. absurd (omega arith); unknown = λ f _. absurd (f refl) }
-
-  pub known-refuted : implies v rs m n ≡ false → Known v rs m n 2
-  known-refuted h = record { implied = λ e. absurd (omega arith); refuted = λ _. h; unknown = λ _ f. absurd (f refl) }
-
-  -- what the memo says of a pair that none of the tests before settles
-  pub known-cell : (memo : List ℕ) → Right v rs memo → m < 256 → n < 256 → (m ≡ 0 → ⊥) → (n ≡ 1 → ⊥) → (m ≡ n → ⊥) → (m + n ≡ 1 → ⊥) → Known v rs m n (getD memo (m * 256 + n) 0)
-  known-cell memo h m-small n-small m-not n-not unlike sum-not =
-      record {
-        implied = h .implied m n m-small n-small;
-        refuted = h .refuted m n m-small n-small;
-        unknown = λ _ _ i j. omega arith;
-      }
-
-  -- of two nodes of which nothing is known at once, one is a record
-  pub unknown-meets : {r : ℕ} → Known v rs m n r → (r ≡ 1 → ⊥) → (r ≡ 2 → ⊥) → m < 2 → n < 2 → ⊥
-  unknown-meets h a b i j = h .unknown a b i j
+  pub next-split : implies (endOf ps) (recordsOf ps hs ls) m n ≡ (implies (endOf ps) (recordsOf ps hs ls) (next ps hs m n) (next ps hs n m) && implies (endOf ps) (recordsOf ps hs ls) (next ps ls m n) (next ps ls n m))
+  next-split =
+      rw (← m-next true, ← n-next true, ← m-next false, ← n-next false) (pair-split (h .pairs .formed) m n _ (h .met) first-held)
 
 -- ---------------------------------------------------------------------------
 -- The arrays of a file
@@ -249,11 +183,18 @@ column-at end part rs k l =
     let at : k + 2 ≡ suc (suc k) = omega arith in
     rw at (sequence-at (λ i. part (recordAt rs i)) 0 254 k 0 l ∙ rw zero-add)
 
+-- the cells of the ends
+column-ends : (part : Record → ℕ) (rs : List Record) (n : ℕ) → n < 2 → _≡_ {A = ℕ} (getD (column 0 part rs) n 0) 0
+unfolding column
+column-ends part rs zero l = refl
+column-ends part rs (suc zero) l = refl
+column-ends part rs (suc (suc n)) l = absurd (omega arith)
+
 pub variable-at : (s : List ℕ) (p : ℕ) → p < variableCount s → getD (tableOf s .variables) p (chance 0 1) ≡ variableOf (wordAt s (1 + p))
 unfolding tableOf
 variable-at s p l = sequence-at (λ i. variableOf (wordAt s i)) 1 (variableCount s) p _ l
 
-module _ {s ps hs ls memo : List ℕ} (h : Held s ps hs ls memo) where
+module _ {s ps hs ls : List ℕ} (h : Held s ps hs ls) where
   held-end : endOf ps ≡ variableCount s
   unfolding endOf column
   held-end = rw (h .positions)
@@ -268,12 +209,13 @@ module _ {s ps hs ls memo : List ℕ} (h : Held s ps hs ls memo) where
       (λ l. held-at ps hs ls k l ∙ rw (h .positions, h .high, h .low, column-at _ _ _ k l, column-at _ _ _ k l, column-at _ _ _ k l))
       (λ l. held-past ps hs ls k (omega arith) ∙ sym (record-past s k (omega (arith, heading-records s (h .shaped .heading)))))
 
-  pub held-pairs : Pairs ps hs ls memo
+  pub held-pairs : Pairs ps hs ls
   held-pairs =
       record {
         formed = rw held-end (formed-alike _ _ (λ k. sym (held-records k)) (shaped-formed s (h .shaped)));
         ends = held-ends;
-        right = h .right;
+        highEnds = λ n l. rw (h .high) (column-ends _ _ n l);
+        lowEnds = λ n l. rw (h .low) (column-ends _ _ n l);
       }
 
   held-implies : (m n : ℕ) → implies (endOf ps) (recordsOf ps hs ls) m n ≡ implies (length (tableOf s .variables)) (tableOf s .records) m n
@@ -296,10 +238,6 @@ module _ {s ps hs ls memo : List ℕ} (h : Held s ps hs ls memo) where
 
   pub held-choice : (k : ℕ) → k < recordCount s → {node at lo hi : ℕ} {test r : Bool} → node ≡ k + 2 → at ≡ getD ps node 0 → test ≡ isChoice (variableOf (wordAt s (1 + at))) → test ≡ true → lo ≡ getD ls node 0 → hi ≡ getD hs node 0 → r ≡ implies (endOf ps) (recordsOf ps hs ls) lo hi → r ≡ isMonotoneAt (tableOf s) k
   held-choice k l en ea et taken elo ehi er = rw (held-test k l, ← en, ← ea, ← et, taken, ← elo, ← ehi) er
-
-  -- the arrays with another memo that is right
-  pub held-memo : {memo′ : List ℕ} → Right (endOf ps) (recordsOf ps hs ls) memo′ → Held s ps hs ls memo′
-  held-memo r = record { shaped = h .shaped; positions = h .positions; high = h .high; low = h .low; right = r }
 
 -- ---------------------------------------------------------------------------
 -- Check 18's test of a word

@@ -1,13 +1,15 @@
--- The arrays by node number that a table's records are copied to, and the memo of pairs of nodes.
-use Prim.Native.Nat.{ℕ, _+_, _*_, _<_}
+-- The arrays by node number that a table's records are copied to, and the queue of pairs of nodes.
+use Prim.Native.Nat.{ℕ, zero, suc, _+_, _*_, _≤_, _<_}
 use mathlib.Core.Path.{_≡_}
-use mathlib.Core.Bool.{Bool, true, false}
+use mathlib.Core.Bool.{true, false, cond}
+use mathlib.Core.Logic.{_⊎_}
 use mathlib.Core.Option.{none}
-use mathlib.Core.List.{List, _∷_}
-use lib.ListN.{getD}
+use mathlib.Core.List.{List, [], _∷_}
+use lib.ListN.{length, getD}
+use lib.Dec.{leb}
 use Rattle.diagram.specs.Table.{Record, sequence, recordAt, tableOf, variableCount}
 use Rattle.diagram.specs.Score.{implies}
-use Rattle.diagram.specs.Checks.{headingFault, countFault, recordFault}
+use Rattle.diagram.specs.Checks.{headingFault, countFault, recordFault, isMonotoneAt}
 use Rattle.diagram.proofs.Truth.{Formed}
 
 -- One part of every record, at its node's number, with `end` for the two ends. There are 256 nodes at most.
@@ -29,37 +31,79 @@ pub record Shaped (s : List ℕ) : Type 0 where
   pub count : countFault s ≡ none
   pub records : recordFault s ≡ none
 
--- A cell of the memo for a pair of nodes: 1 where the first implies the second, 2 where it does not, and 0 where that is not known
-unfoldable pub cellOf : Bool → ℕ
-cellOf true = 1
-cellOf false = 2
-
--- A memo in which every cell that is set is right
-pub record Right (v : ℕ) (rs : List Record) (memo : List ℕ) : Type 0 where
-  pub implied : (m n : ℕ) → m < 256 → n < 256 → getD memo (m * 256 + n) 0 ≡ 1 → implies v rs m n ≡ true
-  pub refuted : (m n : ℕ) → m < 256 → n < 256 → getD memo (m * 256 + n) 0 ≡ 2 → implies v rs m n ≡ false
-
--- What deciding a pair needs: arrays that hold records as check 17 wants them, both ends at one position, and a memo that is right
-pub record Pairs (ps hs ls memo : List ℕ) : Type 0 where
-  pub formed : Formed (endOf ps) (recordsOf ps hs ls)
-  pub ends : getD ps 1 0 ≡ endOf ps
-  pub right : Right (endOf ps) (recordsOf ps hs ls) memo
-
--- The arrays hold the records of a file that the checks up to 17 let through, and the memo is right
-pub record Held (s ps hs ls memo : List ℕ) : Type 0 where
+-- The arrays hold the records of a file that the checks up to 17 let through
+pub record Held (s ps hs ls : List ℕ) : Type 0 where
   pub shaped : Shaped s
   pub positions : ps ≡ column (variableCount s) (λ (r : Record). r .position) (tableOf s .records)
   pub high : hs ≡ column 0 (λ (r : Record). r .hi) (tableOf s .records)
   pub low : ls ≡ column 0 (λ (r : Record). r .lo) (tableOf s .records)
-  pub right : Right (endOf ps) (recordsOf ps hs ls) memo
 
--- What deciding a pair gives: whether m implies n, and a memo that is right
-pub record Decided (ps hs ls memo : List ℕ) (m n : ℕ) (r : Bool) : Type 0 where
-  pub answer : r ≡ implies (endOf ps) (recordsOf ps hs ls) m n
-  pub right : Right (endOf ps) (recordsOf ps hs ls) memo
+-- What passing a pair on needs: arrays that hold records as check 17 wants them, both ends at one position, and 0 for the ends' children
+pub record Pairs (ps hs ls : List ℕ) : Type 0 where
+  pub formed : Formed (endOf ps) (recordsOf ps hs ls)
+  pub ends : getD ps 1 0 ≡ endOf ps
+  pub highEnds : (n : ℕ) → n < 2 → getD hs n 0 ≡ 0
+  pub lowEnds : (n : ℕ) → n < 2 → getD ls n 0 ≡ 0
 
--- What is known of a pair at once: 1 and 2 as in the memo; anything else leaves at least one node that is a record
-pub record Known (v : ℕ) (rs : List Record) (m n r : ℕ) : Type 0 where
-  pub implied : r ≡ 1 → implies v rs m n ≡ true
-  pub refuted : r ≡ 2 → implies v rs m n ≡ false
-  pub unknown : (r ≡ 1 → ⊥) → (r ≡ 2 → ⊥) → m < 2 → n < 2 → ⊥
+-- Where m of the pair m, n leads to by the children in cs: to its child, unless n stands at a smaller position
+abbrev pub next : (ps cs : List ℕ) → (m n : ℕ) → ℕ
+next ps cs m n = cond (leb (getD ps m 0) (getD ps n 0)) (getD cs m 0) m
+
+-- The cell of a pair of nodes: 1 where the pair has been met or was marked at the start, and else 0
+abbrev pub cell : List ℕ → (m n : ℕ) → ℕ
+cell met m n = getD met (m * 256 + n) 0
+
+-- The pairs of which it is known at once that the first node implies the second
+abbrev pub AtOnce : (m n : ℕ) → Type 0
+AtOnce m n = (m ≡ 0) ⊎ ((n ≡ 1) ⊎ (m ≡ n))
+
+-- How many cells are 0
+unfoldable pub zeros : List ℕ → ℕ
+zeros [] = 0
+zeros (zero ∷ l) = suc (zeros l)
+zeros (suc x ∷ l) = zeros l
+
+-- Cells in which only pairs known at once are marked
+pub record Marked (met : List ℕ) : Type 0 where
+  pub size : length met ≡ 65536
+  pub bits : (i : ℕ) → getD met i 0 ≤ 1
+  pub known : (m n : ℕ) → m < 256 → n < 256 → cell met m n ≡ 1 → AtOnce m n
+
+-- There is room for every pair that has not been met
+pub record Room (met firsts seconds : List ℕ) (tail : ℕ) : Type 0 where
+  pub size : length met ≡ 65536
+  pub firstsSize : length firsts ≡ 65536
+  pub secondsSize : length seconds ≡ 65536
+  pub bits : (i : ℕ) → getD met i 0 ≤ 1
+  pub left : tail + zeros met ≤ 65535
+
+-- Both pairs that m, n leads to have been met
+pub record Passed (ps hs ls met : List ℕ) (m n : ℕ) : Type 0 where
+  pub high : cell met (next ps hs m n) (next ps hs n m) ≡ 1
+  pub low : cell met (next ps ls m n) (next ps ls n m) ≡ 1
+
+-- The pair m, n stands in the queue, from head on
+pub record Waits (firsts seconds : List ℕ) (head tail m n : ℕ) : Type 0 where
+  pub slot : ℕ
+  pub from : head ≤ slot
+  pub below : slot < tail
+  pub first : getD firsts slot 0 ≡ m
+  pub second : getD seconds slot 0 ≡ n
+
+-- The queue of the pairs met: those from head up to tail are still to be passed on, and all pairs met imply if the pair a, b does
+pub record Queue (ps hs ls met firsts seconds : List ℕ) (a b head tail : ℕ) : Type 0 where
+  pub pairs : Pairs ps hs ls
+  pub room : Room met firsts seconds tail
+  pub order : head ≤ tail
+  pub asked : cell met a b ≡ 1
+  pub origin : cell met 0 0 ≡ 1
+  pub small : (j : ℕ) → head ≤ j → j < tail → (getD firsts j 0 < 256) × (getD seconds j 0 < 256)
+  pub waiting : (j : ℕ) → head ≤ j → j < tail → cell met (getD firsts j 0) (getD seconds j 0) ≡ 1
+  pub traced : (m n : ℕ) → m < 256 → n < 256 → cell met m n ≡ 1 → AtOnce m n ⊎ (Passed ps hs ls met m n ⊎ Waits firsts seconds head tail m n)
+  pub right : implies (endOf ps) (recordsOf ps hs ls) a b ≡ true → (m n : ℕ) → m < 256 → n < 256 → cell met m n ≡ 1 → implies (endOf ps) (recordsOf ps hs ls) m n ≡ true
+
+-- What passing on all pairs that record k leads to gives: the pair of true and false is met where the record is not
+-- monotone, and else all pairs met imply
+pub record Explored (s ps hs ls met firsts seconds : List ℕ) (k tail : ℕ) : Type 0 where
+  pub fault : (getD met 256 0 ≡ 0 → ⊥) → isMonotoneAt (tableOf s) k ≡ false
+  pub passes : getD met 256 0 ≡ 0 → (isMonotoneAt (tableOf s) k ≡ true) × Queue ps hs ls met firsts seconds 0 0 tail tail

@@ -1,28 +1,28 @@
--- `first_fault` meets its contract. The loop's invariant: the first fault of all records is the first of those from k on, and the memo is right.
--- Assumes nothing.
+-- `first_fault` meets its contract. The loop's invariant: the first fault of all records is the first of those from k on, and all
+-- pairs met imply. Assumes nothing.
 use Prim.Native.Nat.{_+_, _-_}
 use native.Mathlib.Omega.{arith}
-use mathlib.Core.Path.{_≡_, ap, _∙_}
+use mathlib.Core.Path.{_≡_, ap, sym, _∙_}
 use borrow.Author.Needs.{needs}
 use Rattle.diagram.specs.Table.{variableCount, recordCount}
 use Rattle.diagram.specs.Checks.{firstPlace, monotoneFault}
 use Rattle.diagram.proofs.Places.{place-start, place-here, place-next, place-end}
 use Rattle.reading.specs.Answer.{faultOf}
-use Rattle.reading.specs.Nodes.{Held}
+use Rattle.reading.specs.Nodes.{Queue}
 use Rattle.reading.specs.declared.answer.Fault.the-variants.{At}
-use Rattle.reading.proofs.Pairing.{held-memo, unmonotone-at, unmonotone-test}
+use Rattle.reading.proofs.Pairing.{unmonotone-at, unmonotone-test}
 use Rattle.reading.proofs.monotone.first_fault.Statement.{statement}
 use Rattle.reading.proofs.monotone.first_fault.Tie as tie
 
 abbrev Inv-loop : tie.InvT-loop
-Inv-loop file memo₀ positions high low end n k₀ memo k =
+Inv-loop file met₀ firsts₀ seconds₀ positions high low end n tail₀ k₀ met firsts seconds tail k =
     (end .0 ≡ variableCount file)
     × (n ≡ recordCount file)
-    × Held file positions high low memo
+    × Queue positions high low met firsts seconds 0 0 tail tail
     × (monotoneFault file ≡ firstPlace (unmonotone-at file) (1 + variableCount file + k) (recordCount file - k))
 
 abbrev μ-loop : tie.MeasureT-loop
-μ-loop file memo₀ positions high low end n k₀ memo k = n - k
+μ-loop file met₀ firsts₀ seconds₀ positions high low end n tail₀ k₀ met firsts seconds tail k = n - k
 
 variable-count-requires : tie.Need-variable-count-requires Inv-loop μ-loop
 variable-count-requires c κs = search needs
@@ -38,24 +38,28 @@ unfolding monotoneFault
 loop-holds c =
     let start = c .before .before .before .before in
     let s = start .args .file .now in
-    (c .before .new .ensures ∙ c .before .before .variable-count .ensures .0, c .record-count .ensures .0, start .pre, place-start (unmonotone-at s) (1 + variableCount s) (recordCount s))
+    (c .before .new .ensures ∙ c .before .before .variable-count .ensures .0, c .record-count .ensures .0, start .pre .1, place-start (unmonotone-at s) (1 + variableCount s) (recordCount s))
 
-is-monotone-at-requires : tie.Need-is-monotone-at-requires Inv-loop μ-loop
-is-monotone-at-requires c κs = (c .before .before .loop .inv .2, omega arith)
+explore-record-requires : tie.Need-explore-record-requires Inv-loop μ-loop
+explore-record-requires c κs = (c .before .before .before .before .before .before .before .before .before .pre .0, omega arith, c .before .before .before .before .loop .inv .2)
+
+element-copy-out-if1 : tie.Need-element-copy-out-if1 Inv-loop μ-loop
+element-copy-out-if1 c = search needs
 
 word-requires : tie.Need-word-requires Inv-loop μ-loop
 word-requires c κs = search needs
 
-add-t14 : tie.Need-add-t14 Inv-loop μ-loop
-add-t14 c = omega arith
+add-t21 : tie.Need-add-t21 Inv-loop μ-loop
+add-t21 c = omega arith
 
 returns : tie.Need-returns Inv-loop μ-loop
 unfolding faultOf
 returns c =
-    let at = c .before .before .before .before .before .loop in
-    let s = c .before .before .before .before .before .before .before .before .before .before .args .file .now in
+    let at = c .before .before .before .before .before .before .before .before .loop in
+    let s = c .before .before .before .before .before .before .before .before .before .before .before .before .before .args .file .now in
     let place : c .word .result + at .k ≡ 1 + variableCount s + at .k = omega (arith, c .word .ensures) in
-    rw (at .inv .3, place-here (unmonotone-at s) (1 + variableCount s) (recordCount s) (at .k) (omega arith) (unmonotone-test s (at .k) (c .before .before .is-monotone-at .ensures .0) ∙ c .before .if1 .taken)) (ap At place)
+    let fault = sym (c .before .before .before .explore-record .ensures .fault (c .before .if1 .taken)) in
+    rw (at .inv .3, place-here (unmonotone-at s) (1 + variableCount s) (recordCount s) (at .k) (omega arith) (unmonotone-test s (at .k) fault)) (ap At place)
 
 add-k : tie.Need-add-k Inv-loop μ-loop
 add-k c = omega arith
@@ -65,9 +69,10 @@ loop-less c = omega arith
 
 loop-again : tie.Need-loop-again Inv-loop μ-loop
 loop-again c =
-    let at = c .before .before .before .before .loop in
-    let s = c .before .before .before .before .before .before .before .before .before .args .file .now in
-    (at .inv .0, at .inv .1, held-memo (at .inv .2) (c .before .is-monotone-at .ensures .1), at .inv .3 ∙ place-next (unmonotone-at s) (1 + variableCount s) (recordCount s) (at .k) (omega arith) (unmonotone-test s (at .k) (c .before .is-monotone-at .ensures .0) ∙ c .if1 .left))
+    let at = c .before .before .before .before .before .before .before .loop in
+    let s = c .before .before .before .before .before .before .before .before .before .before .before .before .args .file .now in
+    let passes = c .before .before .explore-record .ensures .passes (c .if1 .left) in
+    (at .inv .0, at .inv .1, passes .1, at .inv .3 ∙ place-next (unmonotone-at s) (1 + variableCount s) (recordCount s) (at .k) (omega arith) (unmonotone-test s (at .k) (sym (passes .0))))
 
 returns-2 : tie.Need-returns-2 Inv-loop μ-loop
 unfolding faultOf
@@ -85,9 +90,10 @@ first-fault-spec =
     new-requires
     record-count-requires
     loop-holds
-    is-monotone-at-requires
+    explore-record-requires
+    element-copy-out-if1
     word-requires
-    add-t14
+    add-t21
     returns
     add-k
     loop-less

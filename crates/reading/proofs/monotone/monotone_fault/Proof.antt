@@ -1,20 +1,32 @@
--- `monotone_fault` meets its contract: the arrays hold the file's records, and the memo of zeros is right.
+-- `monotone_fault` meets its contract: the arrays hold the file's records, and the queue starts with nothing in it.
 -- Assumes nothing.
-use Rattle.reading.proofs.Pairing.{right-zeros}
+use Rattle.reading.specs.Nodes.{Held}
+use Rattle.reading.proofs.Pairing.{held-pairs}
+use Rattle.reading.proofs.Queue.{start}
 use borrow.Author.Needs.{needs}
 use Rattle.reading.proofs.monotone.monotone_fault.Statement.{statement}
 use Rattle.reading.proofs.monotone.monotone_fault.Tie as tie
 
+held : (c : tie.After-decode) → Held (c .before .before .before .before .before .args .file .now) (c .decode .last .1 .0) (c .decode .last .1 .1 .0) (c .decode .last .1 .1 .1 .0)
+held c =
+    let copied = c .decode .ensures in
+    record { shaped = c .before .before .before .before .before .pre; positions = copied .0; high = copied .1 .0; low = copied .1 .1 }
+
 decode-requires : tie.Need-decode-requires
 decode-requires c κs = search needs
 
+mark-known-requires : tie.Need-mark-known-requires
+mark-known-requires c κs = search needs
+
 first-fault-requires : tie.Need-first-fault-requires
 first-fault-requires c κs =
-    let copied = c .before .before .before .before .decode .ensures in
-    record { shaped = c .before .before .before .before .before .before .before .before .before .pre; positions = copied .0; high = copied .1 .0; low = copied .1 .1; right = right-zeros _ _ 65536 }
+    let h = held (c .before .before .before .before .before .before .before .before) in
+    let marked = c .before .before .before .before .before .before .mark-known .ensures in
+    (h, start (held-pairs h) (marked .0) (marked .1) (search needs) (search needs))
 
 returns : tie.Need-returns
 returns c = search needs
 
 pub monotone-fault-spec : {M : Type 1} → statement M
-monotone-fault-spec = tie.close (tie.spec decode-requires first-fault-requires returns)
+monotone-fault-spec =
+    tie.close (tie.spec decode-requires mark-known-requires first-fault-requires returns)
