@@ -18,6 +18,31 @@ use Rattle.diagram.proofs.Places.{sequence-length, sequence-at}
 use Rattle.sweep.specs.Drops.{Passes, lossAt, opensAt, lossSum, Losing}
 
 -- ---------------------------------------------------------------------------
+-- One cell, read at m for node or position d
+
+-- the cell with x added
+pub added-read : (cells : List ℕ) (x : ℕ) {m d : ℕ} → m ≡ d → set cells m (getD cells m 0 + x) ≡ set cells d (getD cells d 0 + x)
+added-read cells x e = rw e
+
+-- a bound of its sum with x
+pub added-fits : (cells : List ℕ) (x : ℕ) {m d b : ℕ} → m ≡ d → getD cells d 0 + x < b → getD cells m 0 + x < b
+added-fits cells x e h = rw e h
+
+-- ---------------------------------------------------------------------------
+-- One loss, read at m for node d, where v is the value of the node's child by lo
+
+module _ (low arcs values weights : List ℕ) where
+  pub record Lost (d m v : ℕ) : Type 0 where
+    pub left : getD arcs m 0 * v < 2 ^ 64
+    pub gains : getD arcs m 0 * v ≤ getD values m 0
+    pub fits : getD weights m 0 * (getD values m 0 - getD arcs m 0 * v) < 2 ^ 64
+    pub exact : getD weights m 0 * (getD values m 0 - getD arcs m 0 * v) ≡ getD weights d 0 * (getD values d 0 - getD arcs d 0 * getD values (getD low d 0) 0)
+
+  -- with the child b
+  pub lost : {m d b v : ℕ} → m ≡ d → b ≡ getD low d 0 → v ≡ getD values b 0 → (getD arcs d 0 * getD values (getD low d 0) 0 ≤ getD values d 0) × (getD values d 0 ≤ 2 ^ 56) → getD weights d 0 * (getD values d 0 - getD arcs d 0 * getD values (getD low d 0) 0) ≤ 2 ^ 56 → Lost d m v
+  lost e f g h l = rw (e, g, f) (record { left = omega arith; gains = h .0; fits = omega arith; exact = refl })
+
+-- ---------------------------------------------------------------------------
 -- A sum, record after record
 
 module _ (a : Passes) (x : ℕ) where

@@ -1,8 +1,6 @@
 -- `lose` meets its contract: the cell of the position is written, and no other. Assumes nothing.
-use native.Mathlib.Omega.{arith}
-use mathlib.Core.Path.{_≡_}
-use lib.ListN.{getD}
 use borrow.Author.Needs.{needs}
+use Rattle.sweep.proofs.Summing.{added-read, added-fits}
 use Rattle.sweep.proofs.drops.lose.Statement.{statement}
 use Rattle.sweep.proofs.drops.lose.Tie as tie
 
@@ -16,10 +14,7 @@ element-copy-out-drops : tie.Need-element-copy-out-drops
 element-copy-out-drops c = search needs
 
 add-drops : tie.Need-add-drops
-add-drops c =
-    let start = c .before .before in
-    let cell : getD (start .args .drops .now) (c .before .number .result) 0 ≡ getD (start .args .drops .now) (start .args .at .0) 0 = rw (c .before .number .ensures) in
-    omega (arith, start .pre .2)
+add-drops c = record { fits = added-fits (c .before .before .args .drops .now) (c .before .before .args .x) (c .before .number .ensures) (c .before .before .pre .2) }
 
 mul-drops-2 : tie.Need-mul-drops-2
 mul-drops-2 c = search needs
@@ -28,7 +23,7 @@ element-write-drops : tie.Need-element-write-drops
 element-write-drops c = search needs
 
 returns : tie.Need-returns
-returns c = rw (c .before .number .ensures)
+returns c = added-read (c .before .before .args .drops .now) (c .before .before .args .x) (c .before .number .ensures)
 
 pub lose-spec : {M : Type 1} → statement M
 lose-spec =

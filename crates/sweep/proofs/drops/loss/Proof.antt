@@ -1,15 +1,14 @@
 -- `loss` meets its contract: what comes by the lo arc is not above the node's value, and the product fits. Assumes nothing.
-use Prim.Native.Nat.{_*_}
-use native.Mathlib.Omega.{arith}
-use mathlib.Core.Path.{_≡_}
-use lib.ListN.{getD}
 use borrow.Author.Needs.{needs}
+use Rattle.sweep.proofs.Summing.{Lost, lost}
 use Rattle.sweep.proofs.drops.loss.Statement.{statement}
 use Rattle.sweep.proofs.drops.loss.Tie as tie
 
--- what comes by the lo arc, by the numbers that the code reads at
-low-part : (c : tie.After-value-of) → let start = c .before .before .before .before in getD (start .args .low-arcs .now) (c .before .before .before .number .result) 0 * c .value-of .result ≡ getD (start .args .low-arcs .now) (start .args .node .0) 0 * getD (start .args .values .now) (getD (start .args .low .now) (start .args .node .0) 0) 0
-low-part c = rw (c .value-of .ensures, c .before .child-of .ensures, c .before .before .before .number .ensures)
+-- the numbers that are read
+read : (c : tie.After-value-of) → let at = c .before .before .before .before in Lost (at .args .low .now) (at .args .low-arcs .now) (at .args .values .now) (at .args .weights .now) (at .args .node .0) (c .before .before .before .number .result) (c .value-of .result)
+read c =
+    let at = c .before .before .before .before in
+    lost _ _ _ _ (c .before .before .before .number .ensures) (c .before .child-of .ensures) (c .value-of .ensures) (at .pre .0) (at .pre .1)
 
 number-requires : tie.Need-number-requires
 number-requires c κs = search needs
@@ -27,7 +26,7 @@ value-of-requires : tie.Need-value-of-requires
 value-of-requires c κs = search needs
 
 mul-left-2 : tie.Need-mul-left-2
-mul-left-2 c = omega (arith, low-part c, c .before .before .before .before .pre .0)
+mul-left-2 c = record { fits = read c .left }
 
 mul-result : tie.Need-mul-result
 mul-result c = search needs
@@ -42,13 +41,13 @@ element-copy-out-result-2 : tie.Need-element-copy-out-result-2
 element-copy-out-result-2 c = search needs
 
 sub-result : tie.Need-sub-result
-sub-result c = rw (low-part (c .before .before), c .before .before .before .before .before .number .ensures) (c .before .before .before .before .before .before .pre .0 .0)
-
-returns : tie.Need-returns
-returns c = rw (low-part (c .before .before), c .before .before .before .before .before .number .ensures)
+sub-result c = read (c .before .before) .gains
 
 mul-result-3 : tie.Need-mul-result-3
-mul-result-3 c = omega (arith, returns c, c .before .before .before .before .before .before .pre .1)
+mul-result-3 c = record { fits = read (c .before .before) .fits }
+
+returns : tie.Need-returns
+returns c = read (c .before .before) .exact
 
 pub loss-spec : {M : Type 1} → statement M
 loss-spec =
