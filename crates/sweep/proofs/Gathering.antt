@@ -1,11 +1,11 @@
 -- The cells of the choices' positions, gathered by choice number, as a loop over the variables has them before each turn.
 -- Assumes of the file, where a law says so, that it has at most 20 choices.
-use Prim.Native.Nat.{ℕ, suc, _+_, _≤_, _<_}
+use Prim.Native.Nat.{ℕ, _+_, _≤_, _<_}
 use native.Mathlib.Nat.{zero-add}
 use native.Mathlib.Numerals.{add-one}
 use native.Mathlib.Omega.{arith}
 use mathlib.Core.Path.{_≡_, refl, ap, sym, _∙_}
-use mathlib.Core.Bool.{true, false}
+use mathlib.Core.Bool.{Bool, true, false}
 use mathlib.Core.List.{List, [], _∷_, _++_}
 use lib.ListN.{length, getD, set, replicate}
 use lib.Seq.{take-all}
@@ -23,7 +23,12 @@ pub record Gathered (s cells : List ℕ) (p choice : ℕ) (numbers : List ℕ) :
   pub count : choice ≡ choiceCount (first s p)
   pub written : (f : ℕ → ℕ) → Chosen (tableOf s) f cells → numbers ≡ over (sequence f 0 choice) (replicate 20 0)
 
+-- the test b of the variable at position q, where the loop is at p
+pub tested-at : (s : List ℕ) (p : ℕ) {q : ℕ} {b : Bool} → q ≡ p → b ≡ isChoice (next s q) → isChoice (next s p) ≡ b
+tested-at s p e f = rw (f, e)
+
 module _ (s cells : List ℕ) where
+  -- before the first turn
   pub gathered-start : Gathered s cells 0 0 (replicate 20 0)
   unfolding choiceCount over sequence
   gathered-start = record { count = refl; written = λ f e. refl }

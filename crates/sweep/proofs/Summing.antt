@@ -32,6 +32,7 @@ added-fits cells x e h = rw e h
 -- One loss, read at m for node d, where v is the value of the node's child by lo
 
 module _ (low arcs values weights : List ℕ) where
+  -- what is computed neither goes below zero nor wraps, and is the loss
   pub record Lost (d m v : ℕ) : Type 0 where
     pub left : getD arcs m 0 * v < 2 ^ 64
     pub gains : getD arcs m 0 * v ≤ getD values m 0
@@ -75,10 +76,12 @@ pub record Summed (a : Passes) (k : ℕ) (drops : List ℕ) : Type 0 where
   pub size : length drops ≡ 64
   pub each : (x : ℕ) → x < 64 → getD drops x 0 ≡ lossSum a x k
 
+-- before the first turn
 pub summed-start : (a : Passes) → Summed a 0 (replicate 64 0)
 unfolding lossSum
 summed-start a = record { size = refl; each = λ x l. getD-replicate 64 x 0 0 l }
 
+-- after the last
 pub summed-end : {a : Passes} {n : ℕ} {drops : List ℕ} → Summed a n drops → drops ≡ sequence (λ (x : ℕ). lossSum a x n) 0 64
 summed-end {a} {n} {drops} s =
     let size = s .size in
@@ -96,21 +99,26 @@ lossOf a m =
     * (getD (a .values) m 0 - getD (a .lowArcs) m 0 * getD (a .values) (getD (a .low) m 0) 0)
 
 module _ {a : Passes} {n : ℕ} (h : Losing a n) {k m p o : ℕ} (l : k < n) (d : m ≡ k + 2) (e : p ≡ getD (a .positions) m 0) (g : o ≡ getD (a .marks) p 0) where
+  -- the position has a cell
   pub position-within : p < 64
   position-within = rw e (h .within m)
 
+  -- with an open mark the record counts at its position
   opens-here : o ≡ 0 → opensAt a p k ≡ true
   unfolding opensAt
   opens-here z = rw (← d, ← e, ← g, eq-eqb p p refl, eq-eqb o 0 z)
 
+  -- and at no other
   opens-other : (x : ℕ) → p ≢ x → opensAt a x k ≡ false
   unfolding opensAt
   opens-other x u = rw (← d, ← e, ne-eqb p x u)
 
+  -- with a closed mark it counts nowhere
   opens-shut : (x : ℕ) → o ≢ 0 → opensAt a x k ≡ false
   unfolding opensAt
   opens-shut x u = rw (← d, ← e, ← g, ne-eqb o 0 u) (and-false (eqb p x))
 
+  -- its loss, by node
   loss-here : lossOf a m ≡ lossAt a k
   unfolding lossAt
   loss-here = rw d
@@ -124,13 +132,16 @@ module _ {a : Passes} {n : ℕ} (h : Losing a n) {k m p o : ℕ} (l : k < n) (d 
     pub loss-gains : getD (a .lowArcs) m 0 * getD (a .values) (getD (a .low) m 0) 0 ≤ getD (a .values) m 0
     loss-gains = rw d (h .gains p k l (opens-here z))
 
+    -- the sum with this loss fits
     sum-fits : lossSum a p k + lossOf a m ≤ 2 ^ 56
     sum-fits = omega (arith, loss-here, sum-open a p k (opens-here z), sum-le a p (k + 1) n (omega arith), h .sums p)
 
+    -- and so does the loss
     pub loss-fits : lossOf a m ≤ 2 ^ 56
     loss-fits = omega (arith, sum-fits)
 
     module _ {drops : List ℕ} (s : Summed a k drops) {x : ℕ} (w : x ≡ lossOf a m) where
+      -- the sum in the cell, with the loss x, fits
       pub cell-fits : getD drops p 0 + x < 2 ^ 64
       cell-fits = omega (arith, sum-fits, s .each p position-within)
 

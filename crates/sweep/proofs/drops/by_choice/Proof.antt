@@ -6,7 +6,7 @@ use mathlib.Core.Path.{_≡_, refl, _∙_}
 use mathlib.Core.Logic.{⊎-elim}
 use Rattle.diagram.specs.Table.{isChoice, variableCount}
 use Rattle.reading.proofs.Counting.{next}
-use Rattle.sweep.proofs.Gathering.{Gathered, gathered-start, choice-less, gathered-choice, gathered-chance, gathered-end}
+use Rattle.sweep.proofs.Gathering.{Gathered, gathered-start, tested-at, choice-less, gathered-choice, gathered-chance, gathered-end}
 use Rattle.sweep.proofs.drops.by_choice.Statement.{statement}
 use Rattle.sweep.proofs.drops.by_choice.Tie as tie
 
@@ -18,7 +18,7 @@ abbrev μ-loop : tie.MeasureT-loop
 
 -- the test of a turn
 tested : (c : tie.After-is-choice Inv-loop μ-loop) → isChoice (next (c .before .before .before .before .before .before .args .file .now) (c .before .before .before .loop .p)) ≡ c .is-choice .result
-tested c = rw (c .is-choice .ensures, c .before .new .ensures)
+tested c = tested-at _ _ (c .before .new .ensures) (c .is-choice .ensures)
 
 variable-count-requires : tie.Need-variable-count-requires Inv-loop μ-loop
 variable-count-requires c κs = tt

@@ -1,10 +1,9 @@
 -- `drops_by_position` meets its contract. The loop's invariant: each cell holds the sum of the first k records' losses at its position
 -- (`Summed`). The measure is the number of records left. Assumes nothing.
-use Prim.Native.Nat.{_+_, _-_, _≤_, _<_}
+use Prim.Native.Nat.{_-_, _≤_}
 use native.Mathlib.Omega.{arith}
-use mathlib.Core.Path.{_≡_, refl, _∙_}
+use mathlib.Core.Path.{_≡_, refl}
 use mathlib.Core.Logic.{⊎-elim}
-use Rattle.sweep.specs.Drops.{Passes}
 use Rattle.sweep.proofs.Summing.{Summed, summed-start, position-within, loss-gains, loss-fits, cell-fits, summed-open, summed-shut, summed-end}
 use Rattle.sweep.proofs.drops.drops_by_position.Statement.{statement}
 use Rattle.sweep.proofs.drops.drops_by_position.Tie as tie
@@ -63,9 +62,9 @@ loop-again c =
     let mark = c .before .mark-at .ensures in (
       omega arith,
       ⊎-elim
-      (λ w. rw (w .4, w .3 .ensures) (summed-open (start .pre) taken node position mark (w .0 .taken) summed (w .1 .ensures)))
-      (λ w. rw (w .1) (summed-shut (start .pre) taken node position mark summed (w .0 .left)))
-      (c .if1 .came),
+          (λ w. rw (w .4, w .3 .ensures) (summed-open (start .pre) taken node position mark (w .0 .taken) summed (w .1 .ensures)))
+          (λ w. rw (w .1) (summed-shut (start .pre) taken node position mark summed (w .0 .left)))
+          (c .if1 .came),
     )
 
 returns : tie.Need-returns Inv-loop μ-loop
