@@ -74,7 +74,7 @@ column-less end part rs b e h (suc (suc k)) =
 -- Marks
 
 -- the choices before a choice are fewer than all
-choices-before : (vs : List Variable) (x : ℕ) → x < length vs → isChoice (getD vs x (chance 0 1)) ≡ true → choiceCount (take x vs) < choiceCount vs
+pub choices-before : (vs : List Variable) (x : ℕ) → x < length vs → isChoice (getD vs x (chance 0 1)) ≡ true → choiceCount (take x vs) < choiceCount vs
 unfolding choiceCount isChoice
 choices-before [] x h e = absurd (omega arith)
 choices-before (choice ∷ vs) zero h e = omega arith

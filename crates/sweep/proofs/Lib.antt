@@ -3,3 +3,5 @@ pub mod Completing
 pub mod Demanded
 pub mod ForcedLines
 pub mod Transposing
+pub mod Summing
+pub mod Gathering

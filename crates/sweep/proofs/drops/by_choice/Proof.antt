@@ -1,72 +1,77 @@
+-- `by_choice` meets its contract. The loop's invariant: the choices among the first p variables are counted, and their cells stand in front
+-- (`Gathered`). The measure is the number of variables left. Assumes nothing.
+use Prim.Native.Nat.{_-_, _<_}
+use native.Mathlib.Omega.{arith}
+use mathlib.Core.Path.{_≡_, refl, _∙_}
+use mathlib.Core.Logic.{⊎-elim}
+use Rattle.diagram.specs.Table.{isChoice, variableCount}
+use Rattle.reading.proofs.Counting.{next}
+use Rattle.sweep.proofs.Gathering.{Gathered, gathered-start, tested-at, choice-less, gathered-choice, gathered-chance, gathered-end}
 use Rattle.sweep.proofs.drops.by_choice.Statement.{statement}
 use Rattle.sweep.proofs.drops.by_choice.Tie as tie
-use Rattle.sweep.proofs.drops.by_choice.Reads as reads
-use Rattle.sweep.proofs.drops.by_choice.Lts as lts
-use Rattle.diagram.proofs.numbering.Position.new.Reads as new-reads
-use Rattle.reading.proofs.is_choice.Reads as is-choice-reads
-use Rattle.reading.proofs.variable_count.Reads as variable-count-reads
 
 abbrev Inv-loop : tie.InvT-loop
-Inv-loop file cells v numbers₀ choice₀ p₀ numbers choice p = ?
+Inv-loop file cells v numbers₀ choice₀ p₀ numbers choice p = Gathered file cells p choice numbers
 
 abbrev μ-loop : tie.MeasureT-loop
-μ-loop file cells v numbers₀ choice₀ p₀ numbers choice p = ?
+μ-loop file cells v numbers₀ choice₀ p₀ numbers choice p = v - p
 
--- src/drops.rt:77:9
+-- the test of a turn
+tested : (c : tie.After-is-choice Inv-loop μ-loop) → isChoice (next (c .before .before .before .before .before .before .args .file .now) (c .before .before .before .loop .p)) ≡ c .is-choice .result
+tested c = tested-at _ _ (c .before .new .ensures) (c .is-choice .ensures)
+
 variable-count-requires : tie.Need-variable-count-requires Inv-loop μ-loop
-variable-count-requires c κs = ?
+variable-count-requires c κs = tt
 
--- src/drops.rt:81:5
 loop-holds : tie.Need-loop-holds Inv-loop μ-loop
-loop-holds c = ?
+loop-holds c = gathered-start _ _
 
--- src/drops.rt:82:28
 new-requires : tie.Need-new-requires Inv-loop μ-loop
-new-requires c κs = ?
+new-requires c κs = tt
 
--- src/drops.rt:82:12
 is-choice-requires : tie.Need-is-choice-requires Inv-loop μ-loop
-is-choice-requires c κs = ?
+is-choice-requires c κs = tt
 
--- src/drops.rt:83:37
 cast-numbers : tie.Need-cast-numbers Inv-loop μ-loop
-cast-numbers c = ?
+cast-numbers c = omega arith
 
--- src/drops.rt:83:31
 mul-numbers : tie.Need-mul-numbers Inv-loop μ-loop
-mul-numbers c = ?
+mul-numbers c = omega arith
 
--- src/drops.rt:83:31
 element-copy-out-numbers : tie.Need-element-copy-out-numbers Inv-loop μ-loop
-element-copy-out-numbers c = ?
+element-copy-out-numbers c = omega arith
 
--- src/drops.rt:83:13
-mul-numbers-2 : tie.Need-mul-numbers-2 Inv-loop μ-loop
-mul-numbers-2 c = ?
-
--- src/drops.rt:83:13
 array-write-numbers : tie.Need-array-write-numbers Inv-loop μ-loop
-array-write-numbers c = ?
+array-write-numbers c =
+    let at = c .before .before .before .before .before in
+    choice-less _ _ (at .loop .inv) (omega arith) (at .before .before .before .pre .1) (tested (c .before .before) ∙ c .before .if1 .taken)
 
--- src/drops.rt:84:13
+mul-numbers-2 : tie.Need-mul-numbers-2 Inv-loop μ-loop
+mul-numbers-2 c = omega (arith, array-write-numbers c)
+
 add-choice : tie.Need-add-choice Inv-loop μ-loop
-add-choice c = ?
+add-choice c = omega (arith, array-write-numbers c)
 
--- src/drops.rt:86:9
 add-p : tie.Need-add-p Inv-loop μ-loop
-add-p c = ?
+add-p c = omega arith
 
--- src/drops.rt:81:5
 loop-less : tie.Need-loop-less Inv-loop μ-loop
-loop-less c = ?
+loop-less c = omega arith
 
--- src/drops.rt:81:5
 loop-again : tie.Need-loop-again Inv-loop μ-loop
-loop-again c = ?
+loop-again c =
+    let at = c .before .before .before .before in
+    let start = at .before .before .before in
+    let s = start .args .file .now in
+    let cells = start .args .cells .now in
+    let h : at .loop .p < variableCount s = omega arith in
+    ⊎-elim
+    (λ w. rw (w .2, w .3) (gathered-choice s cells (at .loop .inv) h (start .pre .1) (tested (c .before) ∙ w .0 .taken) refl))
+    (λ w. rw (w .1, w .2) (gathered-chance s cells (at .loop .inv) h (tested (c .before) ∙ w .0 .left)))
+    (c .if1 .came)
 
--- src/drops.rt:73:1
 returns : tie.Need-returns Inv-loop μ-loop
-returns c = ?
+returns c = gathered-end _ _ (c .before .loop .inv) (omega arith)
 
 pub by-choice-spec : {M : Type 1} → statement M
 by-choice-spec =

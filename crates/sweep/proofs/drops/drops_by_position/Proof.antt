@@ -1,58 +1,76 @@
+-- `drops_by_position` meets its contract. The loop's invariant: each cell holds the sum of the first k records' losses at its position
+-- (`Summed`). The measure is the number of records left. Assumes nothing.
+use Prim.Native.Nat.{_-_, _≤_}
+use native.Mathlib.Omega.{arith}
+use mathlib.Core.Path.{_≡_, refl}
+use mathlib.Core.Logic.{⊎-elim}
+use Rattle.sweep.proofs.Summing.{Summed, summed-start, position-within, loss-gains, loss-fits, cell-fits, summed-open, summed-shut, summed-end}
 use Rattle.sweep.proofs.drops.drops_by_position.Statement.{statement}
 use Rattle.sweep.proofs.drops.drops_by_position.Tie as tie
-use Rattle.sweep.proofs.drops.drops_by_position.Reads as reads
-use Rattle.sweep.proofs.drops.drops_by_position.Lts as lts
-use Rattle.diagram.proofs.numbering.Node.of_record.Reads as of-record-reads
-use Rattle.reading.proofs.position_of.Reads as position-of-reads
-use Rattle.scoring.proofs.mark_at.Reads as mark-at-reads
-use Rattle.sweep.proofs.drops.lose.Reads as lose-reads
-use Rattle.sweep.proofs.drops.loss.Reads as loss-reads
 
 abbrev Inv-loop : tie.InvT-loop
-Inv-loop n positions low low-arcs marks values weights drops₀ k₀ drops k = ?
+Inv-loop n positions low low-arcs marks values weights drops₀ k₀ drops k =
+    (k ≤ n) × Summed (record { positions = positions; low = low; lowArcs = low-arcs; marks = marks; values = values; weights = weights }) k drops
 
 abbrev μ-loop : tie.MeasureT-loop
-μ-loop n positions low low-arcs marks values weights drops₀ k₀ drops k = ?
+μ-loop n positions low low-arcs marks values weights drops₀ k₀ drops k = n - k
 
--- src/drops.rt:34:5
 loop-holds : tie.Need-loop-holds Inv-loop μ-loop
-loop-holds c = ?
+loop-holds c = (omega arith, summed-start _)
 
--- src/drops.rt:35:13
 of-record-requires : tie.Need-of-record-requires Inv-loop μ-loop
-of-record-requires c κs = ?
+of-record-requires c κs = omega (arith, c .before .before .pre .few)
 
--- src/drops.rt:36:13
 position-of-requires : tie.Need-position-of-requires Inv-loop μ-loop
-position-of-requires c κs = ?
+position-of-requires c κs = tt
 
--- src/drops.rt:37:12
 mark-at-requires : tie.Need-mark-at-requires Inv-loop μ-loop
-mark-at-requires c κs = ?
+mark-at-requires c κs = position-within (c .before .before .before .before .pre) (c .before .before .loop-test .taken) (c .before .of-record .ensures) (c .position-of .ensures) refl
 
--- src/drops.rt:38:17
 loss-requires : tie.Need-loss-requires Inv-loop μ-loop
-loss-requires c κs = ?
+loss-requires c κs =
+    let start = c .before .before .before .before .before .before in
+    let taken = c .before .before .before .before .loop-test .taken in
+    let node = c .before .before .before .of-record .ensures in
+    let position = c .before .before .position-of .ensures in
+    let mark = c .before .mark-at .ensures in
+    ((loss-gains (start .pre) taken node position mark (c .if1 .taken), start .pre .fits _), loss-fits (start .pre) taken node position mark (c .if1 .taken))
 
--- src/drops.rt:39:13
 lose-requires : tie.Need-lose-requires Inv-loop μ-loop
-lose-requires c κs = ?
+lose-requires c κs =
+    let start = c .before .before .before .before .before .before .before .before in
+    let summed = c .before .before .before .before .before .before .before .loop .inv .1 in
+    let taken = c .before .before .before .before .before .before .loop-test .taken in
+    let node = c .before .before .before .before .before .of-record .ensures in
+    let position = c .before .before .before .before .position-of .ensures in
+    let mark = c .before .before .before .mark-at .ensures in
+    (summed .size, position-within (start .pre) taken node position mark, cell-fits (start .pre) taken node position mark (c .before .before .if1 .taken) summed (c .before .loss .ensures))
 
--- src/drops.rt:41:9
 add-k : tie.Need-add-k Inv-loop μ-loop
-add-k c = ?
+add-k c = omega (arith, c .before .before .before .before .before .before .pre .few)
 
--- src/drops.rt:34:5
 loop-less : tie.Need-loop-less Inv-loop μ-loop
-loop-less c = ?
+loop-less c = omega arith
 
--- src/drops.rt:34:5
 loop-again : tie.Need-loop-again Inv-loop μ-loop
-loop-again c = ?
+loop-again c =
+    let start = c .before .before .before .before .before .before in
+    let summed = c .before .before .before .before .before .loop .inv .1 in
+    let taken = c .before .before .before .before .loop-test .taken in
+    let node = c .before .before .before .of-record .ensures in
+    let position = c .before .before .position-of .ensures in
+    let mark = c .before .mark-at .ensures in (
+      omega arith,
+      ⊎-elim
+          (λ w. rw (w .4, w .3 .ensures) (summed-open (start .pre) taken node position mark (w .0 .taken) summed (w .1 .ensures)))
+          (λ w. rw (w .1) (summed-shut (start .pre) taken node position mark summed (w .0 .left)))
+          (c .if1 .came),
+    )
 
--- src/drops.rt:20:1
 returns : tie.Need-returns Inv-loop μ-loop
-returns c = ?
+returns c =
+    let e : c .before .loop .k ≡ c .before .before .args .n = omega arith in
+    rw (← e) (summed-end (c .before .loop .inv .1))
 
 pub drops-by-position-spec : {M : Type 1} → statement M
 drops-by-position-spec =

@@ -1,63 +1,53 @@
+-- `loss` meets its contract: what comes by the lo arc is not above the node's value, and the product fits. Assumes nothing.
 use borrow.Author.Needs.{needs}
+use Rattle.sweep.proofs.Summing.{Lost, lost}
 use Rattle.sweep.proofs.drops.loss.Statement.{statement}
 use Rattle.sweep.proofs.drops.loss.Tie as tie
-use Rattle.sweep.proofs.drops.loss.Reads as reads
-use Rattle.sweep.proofs.drops.loss.Lts as lts
-use Rattle.diagram.proofs.numbering.Node.number.Reads as number-reads
-use Rattle.reading.proofs.child_of.Reads as child-of-reads
-use Rattle.scoring.proofs.value_of.Reads as value-of-reads
 
--- src/drops.rt:58:9
+-- the numbers that are read
+read : (c : tie.After-value-of) → let at = c .before .before .before .before in Lost (at .args .low .now) (at .args .low-arcs .now) (at .args .values .now) (at .args .weights .now) (at .args .node .0) (c .before .before .before .number .result) (c .value-of .result)
+read c =
+    let at = c .before .before .before .before in
+    lost _ _ _ _ (c .before .before .before .number .ensures) (c .before .child-of .ensures) (c .value-of .ensures) (at .pre .0) (at .pre .1)
+
 number-requires : tie.Need-number-requires
 number-requires c κs = search needs
 
--- src/drops.rt:59:16
 mul-left : tie.Need-mul-left
 mul-left c = search needs
 
--- src/drops.rt:59:16
 element-copy-out-left : tie.Need-element-copy-out-left
 element-copy-out-left c = search needs
 
--- src/drops.rt:59:47
 child-of-requires : tie.Need-child-of-requires
 child-of-requires c κs = search needs
 
--- src/drops.rt:59:30
 value-of-requires : tie.Need-value-of-requires
 value-of-requires c κs = search needs
 
--- src/drops.rt:59:16
 mul-left-2 : tie.Need-mul-left-2
-mul-left-2 c = ?
+mul-left-2 c = record { fits = read c .left }
 
--- src/drops.rt:60:5
 mul-result : tie.Need-mul-result
 mul-result c = search needs
 
--- src/drops.rt:60:5
 element-copy-out-result : tie.Need-element-copy-out-result
 element-copy-out-result c = search needs
 
--- src/drops.rt:60:19
 mul-result-2 : tie.Need-mul-result-2
 mul-result-2 c = search needs
 
--- src/drops.rt:60:19
 element-copy-out-result-2 : tie.Need-element-copy-out-result-2
 element-copy-out-result-2 c = search needs
 
--- src/drops.rt:60:19
 sub-result : tie.Need-sub-result
-sub-result c = ?
+sub-result c = read (c .before .before) .gains
 
--- src/drops.rt:60:5
 mul-result-3 : tie.Need-mul-result-3
-mul-result-3 c = ?
+mul-result-3 c = record { fits = read (c .before .before) .fits }
 
--- src/drops.rt:47:1
 returns : tie.Need-returns
-returns c = ?
+returns c = read (c .before .before) .exact
 
 pub loss-spec : {M : Type 1} → statement M
 loss-spec =
