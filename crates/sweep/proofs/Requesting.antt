@@ -10,13 +10,20 @@ use mathlib.Core.Option.{Option, none, some}
 use mathlib.Core.List.{List, [], _∷_, _++_}
 use lib.ListN.{length}
 use borrow.Author.Tests.{lt-ltb, le-ltb, eq-eqb, ne-eqb}
-use Rattle.diagram.specs.Table.{tableOf, choiceCount}
+use Rattle.diagram.specs.Table.{tableOf, choiceCount, scale}
 use Rattle.diagram.specs.Checks.{Check, placeZero, planLengthFault, planMarkFault, percentFault, budgetFault, bufferFault, tableChecks, sweepChecks, filterChecks, searchChecks}
 use Rattle.diagram.specs.Services.{Outcome, refused, answered, checked, Reading, reading, readOutcome, sweepOutcome, filtering, filterOutcome, searching, searchOutcome}
 use Rattle.diagram.specs.Plans.{upperBound, derivatives}
 use Rattle.diagram.proofs.Checked.{checked-passes, checked-stops, checked-end, checked-answered, checked-refused, read-refuses, read-answers, Passed, read-passed, read-reading}
 use Rattle.scoring.proofs.FullPlans.{Legal, legal-marks}
 use Rattle.scoring.proofs.Requests.{length-fits, length-differs}
+use Rattle.diagram.specs.declared.refusal.Refusal.{Refusal}
+use Rattle.reading.specs.declared.answer.Summary.{Summary}
+use Rattle.reading.specs.declared.answer.ReadAnswer.{ReadAnswer}
+use Rattle.reading.specs.Answer.{outcomeOf}
+use Rattle.reading.proofs.Outcomes.{table-read}
+use Rattle.sweep.specs.declared.answer.RequestAnswer.{RequestAnswer}
+use Rattle.sweep.specs.Answer.{requestOf}
 use Rattle.sweep.specs.Request.{requestOutcome}
 
 -- ---------------------------------------------------------------------------
@@ -155,6 +162,34 @@ module _ (s p : List ℕ) (budget percent size : ℕ) where
     request-reading =
         let q = checked-answered s (searchChecks p budget percent size) reading r (λ file. answered (reading file)) e in
         cc
+
+-- ---------------------------------------------------------------------------
+-- What the answers of `read` and `accept` tell
+
+-- The four numbers of a table
+abbrev pub numbers : Summary → Reading
+numbers t = record { variables = t .variables; records = t .records; choices = t .choices; scale = t .scale }
+
+pub table-answered : (s : List ℕ) {r : ReadAnswer} → outcomeOf r ≡ readOutcome s → (t : Summary) → r ≡ ReadAnswer.Table t → answered (numbers t) ≡ answered (reading s)
+unfolding outcomeOf
+table-answered s promise t e = (rw e at promise) ∙ table-read s promise t e
+
+module _ (s p : List ℕ) (budget percent size : ℕ) {r : RequestAnswer} (promise : requestOf r ≡ requestOutcome s p budget percent size) where
+  pub refused-request : (x : Refusal) → r ≡ RequestAnswer.Refused x → requestOutcome s p budget percent size ≡ refused (x .number) (x .place)
+  unfolding requestOf
+  refused-request x e = sym (rw e at promise)
+
+  module _ (t : Summary) (e : r ≡ RequestAnswer.Accepted t) where
+    pub accepted-request : requestOutcome s p budget percent size ≡ answered (numbers t)
+    unfolding requestOf
+    accepted-request = sym (rw e at promise)
+
+    pub accepted-proper : Proper s p budget percent size
+    accepted-proper = proper s p budget percent size (numbers t) accepted-request
+
+    pub accepted-scale : t .scale ≡ scale (tableOf s)
+    unfolding reading
+    accepted-scale = ap (λ (x : Reading). x .scale) (request-reading s p budget percent size (numbers t) accepted-request)
 
 -- ---------------------------------------------------------------------------
 -- From a request's outcome to a service's
