@@ -14,7 +14,7 @@ use Rattle.scoring.proofs.Bounding.{bound-fits}
 use Rattle.sweep.specs.Answer.{filterOf}
 use Rattle.sweep.specs.Drops.{Swept}
 use Rattle.sweep.specs.Request.{requestOutcome}
-use Rattle.sweep.proofs.Forced.{none-passes}
+use Rattle.sweep.proofs.ForcedLines.{none-passes}
 use Rattle.sweep.proofs.Requesting.{Proper, numbers, refused-request, accepted-request, accepted-proper, accepted-scale}
 use Rattle.sweep.proofs.Serving.{request-swept, filter-turned, filter-31, filter-done}
 use borrow.Author.Needs.{needs}

@@ -1,66 +1,79 @@
+-- `force` meets its contract. The loop's invariant: of the first i lines, the forced ones are counted, and the marks of the forced plan are written over
+-- the buffer (`Forcing`). The measure is the number of lines left. Assumes nothing.
+use Prim.Native.Nat.{_-_, _≤_, _<_}
+use native.Mathlib.Omega.{arith}
+use mathlib.Core.Path.{_≡_, refl, sym, _∙_}
+use mathlib.Core.Logic.{⊎-elim}
+use lib.ListN.{length, length-set}
+use Rattle.diagram.specs.Table.{Table}
+use Rattle.diagram.specs.Plans.{forced}
+use Rattle.sweep.specs.Drops.{Swept}
+use Rattle.sweep.proofs.ForcedLines.{drop-within, forced-turn, Forcing, forcing-start, forcing-taken, forcing-kept, forcing-end}
 use Rattle.sweep.proofs.forced.force.Statement.{statement}
 use Rattle.sweep.proofs.forced.force.Tie as tie
-use Rattle.sweep.proofs.forced.force.Reads as reads
-use Rattle.sweep.proofs.forced.force.Lts as lts
-use Rattle.sweep.proofs.forced.is_forced.Reads as is-forced-reads
 
 abbrev Inv-loop : tie.InvT-loop
-Inv-loop plan percent scale bound drops out₀ count₀ i₀ out count i = ?
+Inv-loop plan percent scale bound drops out₀ count₀ i₀ out count i =
+    (i ≤ length plan) × (count ≤ i) × (length out ≡ length plan) × ((t : Table) → Swept t plan percent scale bound drops → Forcing t percent plan out₀ i count out)
 
 abbrev μ-loop : tie.MeasureT-loop
-μ-loop plan percent scale bound drops out₀ count₀ i₀ out count i = ?
+μ-loop plan percent scale bound drops out₀ count₀ i₀ out count i = length plan - i
 
--- src/forced.rt:48:5
+-- the test of a turn
+tested : (c : tie.After-is-forced Inv-loop μ-loop) → let a = c .before .before .before .before .before .before .before .args in (t : Table) → Swept t (a .plan .now) (a .percent) (a .scale) (a .bound) (a .drops .now) → forced t (a .percent) (a .plan .now) (c .before .before .before .before .loop .i) ≡ c .is-forced .result
+tested c = λ t s. forced-turn s (c .before .before .before .before .loop .i) (omega arith) refl refl (c .is-forced .ensures t (s .scales .0))
+
 loop-holds : tie.Need-loop-holds Inv-loop μ-loop
-loop-holds c = ?
+loop-holds c = (omega arith, omega arith, c .before .before .pre .1, λ t s. forcing-start)
 
--- src/forced.rt:49:20
 shared-slice-read-mark : tie.Need-shared-slice-read-mark Inv-loop μ-loop
-shared-slice-read-mark c = ?
+shared-slice-read-mark c = omega arith
 
--- src/forced.rt:50:51
 mul-is-forced : tie.Need-mul-is-forced Inv-loop μ-loop
-mul-is-forced c = ?
+mul-is-forced c = omega (arith, c .before .before .before .before .before .pre .0 .1 .few)
 
--- src/forced.rt:50:51
 element-copy-out-is-forced : tie.Need-element-copy-out-is-forced Inv-loop μ-loop
-element-copy-out-is-forced c = ?
+element-copy-out-is-forced c = omega (arith, c .before .before .before .before .before .pre .0 .1 .few)
 
--- src/forced.rt:50:12
 is-forced-requires : tie.Need-is-forced-requires Inv-loop μ-loop
-is-forced-requires c κs = ?
+is-forced-requires c κs =
+    let s = c .before .before .before .before .before .before .pre .0 .1 in
+    (s .percents, s .scales .1, s .top .1, drop-within s (c .before .before .before .loop .i) (omega arith))
 
--- src/forced.rt:51:13
 slice-write-out : tie.Need-slice-write-out Inv-loop μ-loop
-slice-write-out c = ?
+slice-write-out c = omega arith
 
--- src/forced.rt:52:13
 add-count : tie.Need-add-count Inv-loop μ-loop
-add-count c = ?
+add-count c = omega (arith, c .before .before .before .before .before .before .before .before .pre .0 .1 .few)
 
--- src/forced.rt:54:13
 slice-write-out-2 : tie.Need-slice-write-out-2 Inv-loop μ-loop
-slice-write-out-2 c = ?
+slice-write-out-2 c = omega arith
 
--- src/forced.rt:56:9
 add-i : tie.Need-add-i Inv-loop μ-loop
-add-i c = ?
+add-i c = omega (arith, c .before .before .before .before .before .before .before .before .pre .0 .1 .few)
 
--- src/forced.rt:48:5
 loop-less : tie.Need-loop-less Inv-loop μ-loop
-loop-less c = ?
+loop-less c = omega arith
 
--- src/forced.rt:48:5
 loop-again : tie.Need-loop-again Inv-loop μ-loop
-loop-again c = ?
+loop-again c =
+    let start = c .before .before .before .before .before .before .before .before in
+    let at = c .before .before .before .before .before .loop in
+    let inside : at .i < length (start .args .out .now) = omega arith in
+    ⊎-elim
+    (λ w.
+    rw (w .1, w .2)
+    (omega arith, omega arith, simp length-set (at .inv .2), λ t s. forcing-taken (at .inv .3 t s) inside (tested (c .before) t s ∙ w .0 .taken) refl refl))
+    (λ w.
+    rw (w .1, w .2)
+    (omega arith, omega arith, simp length-set (at .inv .2), λ t s. forcing-kept (at .inv .3 t s) inside (tested (c .before) t s ∙ w .0 .left) refl refl))
+    (c .if1 .came)
 
--- src/forced.rt:34:1
 same-length : tie.Need-same-length Inv-loop μ-loop
-same-length c = ?
+same-length c = c .before .loop .inv .2 ∙ sym (c .before .before .before .before .pre .1)
 
--- src/forced.rt:34:1
 returns : tie.Need-returns Inv-loop μ-loop
-returns c = ?
+returns c = λ t s. forcing-end (c .before .loop .inv .3 t s) (c .before .before .before .before .pre .1) (omega arith)
 
 pub force-spec : {M : Type 1} → statement M
 force-spec =
