@@ -1,13 +1,13 @@
 -- What `sweep` and `filter` answer and what they leave in their buffers, from what their callees answer.
 -- Assumes nothing.
-use Prim.Native.Nat.{ℕ, _≤_, _^_}
+use Prim.Native.Nat.{ℕ}
 use native.Mathlib.Omega.{arith}
-use mathlib.Core.Path.{_≡_, refl, ap, sym, _∙_}
-use mathlib.Core.Bool.{true, false, not, cond}
+use mathlib.Core.Path.{_≡_, refl, sym, _∙_}
+use mathlib.Core.Bool.{true, false, not}
 use mathlib.Core.List.{List}
 use lib.ListN.{length, take, replicate}
 use lib.Seq.{take-at}
-use Rattle.diagram.specs.Table.{tableOf, scale, choiceCount}
+use Rattle.diagram.specs.Table.{tableOf, scale}
 use Rattle.diagram.specs.Plans.{completions, upperBound, derivative, derivatives, passes, noneOf, passing, forcedPlan, forcedCount}
 use Rattle.diagram.specs.Services.{Outcome, refused, answered, written, Reading, sweepOutcome, sweepBuffer, filtering, filterOutcome, filterBuffer}
 use Rattle.diagram.proofs.Places.{sequence-length}

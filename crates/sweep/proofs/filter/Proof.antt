@@ -1,16 +1,13 @@
 -- `filter` meets its contract: a refused request leaves the buffer, and so does one whose top does not pass; of any other the forced lines are written and
 -- counted. Assumes nothing.
-use Prim.Native.Nat.{_≤_, _^_}
-use native.Mathlib.Omega.{arith}
 use mathlib.Core.Path.{_≡_, sym, _∙_}
-use mathlib.Core.Bool.{not, false}
+use mathlib.Core.Bool.{not}
 use lib.ListN.{length}
 use borrow.Author.Tests.{not-true, not-false}
 use Rattle.diagram.specs.Table.{tableOf, scale}
 use Rattle.diagram.specs.Plans.{completions, upperBound, passes, noneOf, passing}
 use Rattle.diagram.specs.Services.{answered}
-use Rattle.reading.proofs.Accepted.{passed-formed, passed-monotone, passed-scale}
-use Rattle.scoring.proofs.Bounding.{bound-fits}
+use Rattle.reading.proofs.Accepted.{passed-formed, passed-monotone}
 use Rattle.sweep.specs.Answer.{filterOf}
 use Rattle.sweep.specs.Drops.{Swept}
 use Rattle.sweep.specs.Request.{requestOutcome}

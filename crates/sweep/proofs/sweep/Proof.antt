@@ -1,10 +1,10 @@
 -- `sweep` meets its contract: a refused request leaves the buffer, an accepted one is answered with the top, and the drops are copied. Assumes nothing.
 use native.Mathlib.Omega.{arith}
+use lib.ListN.{length}
 use Rattle.reading.proofs.Accepted.{passed-choices}
 use Rattle.sweep.specs.Answer.{sweepOf}
 use Rattle.sweep.proofs.Requesting.{Proper, refused-request, accepted-request, accepted-proper}
 use Rattle.sweep.proofs.Serving.{sweep-turned, sweep-done}
-use lib.ListN.{length}
 use borrow.Author.Needs.{needs}
 use Rattle.sweep.proofs.sweep.Statement.{statement}
 use Rattle.sweep.proofs.sweep.Tie as tie

@@ -1,7 +1,5 @@
 -- `accept` meets its contract: what reading refuses is refused, then each check of what comes with the file decides, and a request without fault is
 -- answered with what reading answers. Assumes nothing.
-use Prim.Native.Nat.{_≤_}
-use native.Mathlib.Omega.{arith}
 use mathlib.Core.Path.{_≡_, sym, _∙_}
 use mathlib.Core.Option.{none}
 use mathlib.Core.List.{[]}
