@@ -37,7 +37,7 @@ pub fn sweep(file: &[u8], plan: &[u8], drops: &mut [u64]) -> SweepAnswer
 
 // Copies the first numbers to a buffer of at most 20 places.
 fn copy(numbers: &[u64; 20], out: &mut [u64])
-    requires { ⌜ length (now out) ≤ 20 ⌝ }
+    requires { ⌜ (length (now numbers) ≡ 20) × (length (now out) ≤ 20) ⌝ }
     ensures { λ _. ⌜ now (out .exit) ≡ take (length (now (out .entry))) (now (numbers .entry)) ⌝ }
 {
     let mut i = 0;

@@ -1,52 +1,88 @@
+-- `filter` meets its contract: a refused request leaves the buffer, and so does one whose top does not pass; of any other the forced lines are written and
+-- counted. Assumes nothing.
+use mathlib.Core.Path.{_≡_, sym, _∙_}
+use mathlib.Core.Bool.{not}
+use lib.ListN.{length}
+use borrow.Author.Tests.{not-true, not-false}
+use Rattle.diagram.specs.Table.{tableOf, scale}
+use Rattle.diagram.specs.Plans.{completions, upperBound, passes, noneOf, passing}
+use Rattle.diagram.specs.Services.{answered}
+use Rattle.reading.proofs.Accepted.{passed-formed, passed-monotone}
+use Rattle.sweep.specs.Answer.{filterOf}
+use Rattle.sweep.specs.Drops.{Swept}
+use Rattle.sweep.specs.Request.{requestOutcome}
+use Rattle.sweep.proofs.ForcedLines.{none-passes}
+use Rattle.sweep.proofs.Requesting.{Proper, numbers, refused-request, accepted-request, accepted-proper, accepted-scale}
+use Rattle.sweep.proofs.Serving.{request-swept, filter-turned, filter-31, filter-done}
 use borrow.Author.Needs.{needs}
 use Rattle.sweep.proofs.filter.Statement.{statement}
 use Rattle.sweep.proofs.filter.Tie as tie
-use Rattle.sweep.proofs.filter.Reads as reads
-use Rattle.sweep.proofs.filter.Lts as lts
-use Rattle.sweep.proofs.forced.force.Reads as force-reads
-use Rattle.sweep.proofs.forced.passes.Reads as passes-reads
-use Rattle.sweep.proofs.request.accept.Reads as accept-reads
-use Rattle.sweep.proofs.two_pass.two_passes.Reads as two-passes-reads
 
--- src/lib.rt:56:19
+-- what is known of a request that the checks let through
+request-answered : (c : tie.After-known-told) → requestOutcome (c .before .before .before .before .before .before .before .args .file .now) (c .before .before .before .before .before .before .before .args .plan .now) 0 (c .before .before .before .before .before .before .before .args .percent) (length (c .before .before .before .before .before .before .before .args .out .now)) ≡ answered (numbers (c .before .t .given .0 .0))
+request-answered c = accepted-request _ _ _ _ _ (c .before .before .before .accept .ensures) _ (c .before .t .given .1)
+
+request-proper : (c : tie.After-known-told) → Proper (c .before .before .before .before .before .before .before .args .file .now) (c .before .before .before .before .before .before .before .args .plan .now) 0 (c .before .before .before .before .before .before .before .args .percent) (length (c .before .before .before .before .before .before .before .args .out .now))
+request-proper c = accepted-proper _ _ _ _ _ (c .before .before .before .accept .ensures) _ (c .before .t .given .1)
+
+request-scale : (c : tie.After-known-told) → c .before .t .given .0 .0 .scale ≡ scale (tableOf (c .before .before .before .before .before .before .before .args .file .now))
+request-scale c = accepted-scale _ _ _ _ _ (c .before .before .before .accept .ensures) _ (c .before .t .given .1)
+
+-- no completion passes exactly where the top does not
+none-top : (c : tie.After-known-told) → let t = tableOf (c .before .before .before .before .before .before .before .args .file .now) in noneOf (passing t (c .before .before .before .before .before .before .before .args .percent)) (completions (c .before .before .before .before .before .before .before .args .plan .now)) ≡ not (passes t (c .before .before .before .before .before .before .before .args .percent) (upperBound t (c .before .before .before .before .before .before .before .args .plan .now)))
+none-top c =
+    let ok = request-proper c in
+    none-passes _ (passed-formed (ok .passed)) (passed-monotone (ok .passed)) _ _
+
+-- the top and the drops, as `force` wants them
+swept : (c : tie.After-two-passes) → Swept (tableOf (c .before .before .before .before .before .before .before .before .args .file .now)) (c .before .before .before .before .before .before .before .before .args .plan .now) (c .before .before .before .before .before .before .before .before .args .percent) (c .before .before .t .given .0 .0 .scale) (c .two-passes .result .bound) (c .two-passes .result .drops)
+swept c = request-swept (request-proper (c .before)) (request-scale (c .before)) (c .two-passes .ensures .0) (c .two-passes .ensures .1)
+
 accept-requires : tie.Need-accept-requires
 accept-requires c κs = search needs
 
--- src/lib.rt:57:33
 enum-known-t : tie.Need-enum-known-t
 enum-known-t c = search needs
 
--- src/lib.rt:58:32
 enum-known-r : tie.Need-enum-known-r
 enum-known-r c = search needs
 
--- src/lib.rt:58:38
 returns : tie.Need-returns
-returns c = ?
+unfolding filterOf
+returns c = filter-turned _ _ _ _ _ _ (refused-request _ _ _ _ _ (c .before .before .before .accept .ensures) _ (c .before .r .given .1))
 
--- src/lib.rt:60:9
 two-passes-requires : tie.Need-two-passes-requires
-two-passes-requires c κs = ?
+two-passes-requires c κs =
+    let ok = request-proper c in
+    (ok .passed, (ok .long, ok .legal))
 
--- src/lib.rt:61:9
 passes-requires : tie.Need-passes-requires
-passes-requires c κs = ?
+passes-requires c κs = (swept c .percents, swept c .scales .1, swept c .top .1)
 
--- src/lib.rt:62:9
 returns-2 : tie.Need-returns-2
-returns-2 c = ?
+unfolding filterOf
+returns-2 c =
+    let at = c .before .before .before in
+    filter-31 _ _ _ _ _ (request-answered at) (none-top at) (c .before .before .two-passes .ensures .0)
+    (sym (c .before .passes .ensures _ (request-scale at)) ∙ not-true _ (c .if1 .taken))
 
--- src/lib.rt:68:26
 force-requires : tie.Need-force-requires
-force-requires c κs = ?
+force-requires c κs =
+    let ok = request-proper (c .before .before .before .before .before .before) in
+    ((_, swept (c .before .before .before .before .before)), ok .sized ∙ sym (ok .long))
 
--- src/lib.rt:52:1
 same-length : tie.Need-same-length
 same-length c = search needs
 
--- src/lib.rt:52:1
 returns-3 : tie.Need-returns-3
-returns-3 c = ?
+unfolding filterOf
+returns-3 c =
+    let at = c .before .before .before .before .before .before .before .before .before in
+    let forced = c .before .before .force .ensures _ (swept (c .before .before .before .before .before .before .before .before)) in
+    filter-done _ _ _ _ _ (request-answered at) (none-top at) (c .before .before .before .before .before .before .before .before .two-passes .ensures .0)
+    (sym (c .before .before .before .before .before .before .before .passes .ensures _ (request-scale at)) ∙ not-false _ (c .before .before .before .before .before .before .if1 .left))
+    (forced .0)
+    (forced .1)
 
 pub filter-spec : {M : Type 1} → statement M
 filter-spec =

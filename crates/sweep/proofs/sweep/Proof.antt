@@ -1,42 +1,51 @@
+-- `sweep` meets its contract: a refused request leaves the buffer, an accepted one is answered with the top, and the drops are copied. Assumes nothing.
+use native.Mathlib.Omega.{arith}
+use lib.ListN.{length}
+use Rattle.reading.proofs.Accepted.{passed-choices}
+use Rattle.sweep.specs.Answer.{sweepOf}
+use Rattle.sweep.proofs.Requesting.{Proper, refused-request, accepted-request, accepted-proper}
+use Rattle.sweep.proofs.Serving.{sweep-turned, sweep-done}
 use borrow.Author.Needs.{needs}
 use Rattle.sweep.proofs.sweep.Statement.{statement}
 use Rattle.sweep.proofs.sweep.Tie as tie
-use Rattle.sweep.proofs.sweep.Reads as reads
-use Rattle.sweep.proofs.sweep.Lts as lts
-use Rattle.sweep.proofs.copy.Reads as copy-reads
-use Rattle.sweep.proofs.request.accept.Reads as accept-reads
-use Rattle.sweep.proofs.two_pass.two_passes.Reads as two-passes-reads
 
--- src/lib.rt:29:40
+-- the request that the checks let through
+request-proper : (c : tie.After-enum-told) → Proper (c .before .before .before .before .before .before .args .file .now) (c .before .before .before .before .before .before .args .plan .now) 0 0 (length (c .before .before .before .before .before .before .args .drops .now))
+request-proper c = accepted-proper _ _ _ _ _ (c .before .before .accept .ensures) _ (c .enum-told .given .1)
+
 accept-requires : tie.Need-accept-requires
 accept-requires c κs = search needs
 
--- src/lib.rt:29:35
 enum-known-r : tie.Need-enum-known-r
 enum-known-r c = search needs
 
--- src/lib.rt:30:9
 returns : tie.Need-returns
-returns c = ?
+unfolding sweepOf
+returns c = sweep-turned _ _ _ _ _ (refused-request _ _ _ _ _ (c .before .before .before .accept .ensures) _ (c .before .r .given .1))
 
 enum-told : tie.Need-enum-told
 enum-told c = search needs
 
--- src/lib.rt:32:9
 two-passes-requires : tie.Need-two-passes-requires
-two-passes-requires c κs = ?
+two-passes-requires c κs =
+    let ok = request-proper c in
+    (ok .passed, (ok .long, ok .legal))
 
--- src/lib.rt:34:5
 copy-requires : tie.Need-copy-requires
-copy-requires c κs = ?
+copy-requires c κs =
+    let ok = request-proper (c .before .before .before .before) in
+    (search needs, omega (arith, passed-choices (ok .passed)))
 
--- src/lib.rt:25:1
 same-length : tie.Need-same-length
 same-length c = search needs
 
--- src/lib.rt:25:1
 returns-2 : tie.Need-returns-2
-returns-2 c = ?
+unfolding sweepOf
+returns-2 c =
+    sweep-done _ _ _ _ (accepted-request _ _ _ _ _ (c .before .before .before .before .before .before .before .before .before .accept .ensures) _ (c .before .before .before .before .before .before .before .enum-told .given .1))
+    (c .before .before .before .before .before .before .two-passes .ensures .0)
+    (c .before .before .before .before .before .before .two-passes .ensures .1)
+    (c .before .before .copy .ensures)
 
 pub sweep-spec : {M : Type 1} → statement M
 sweep-spec =
