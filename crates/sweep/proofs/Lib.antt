@@ -1,1 +1,2 @@
 -- The laws of the pass down, of the drops and of the filter, and demand 3.
+pub mod Leaving
