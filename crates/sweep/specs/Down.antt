@@ -10,6 +10,11 @@ unfoldable pub dot : (weights : List ℕ) → (value : ℕ → ℕ) → (n : ℕ
 dot ws v zero = 0
 dot ws v (suc i) = dot ws v i + getD ws i 0 * v i
 
+-- The sum, over the first n records, of the node's weight times a number of the record
+unfoldable pub recordSum : (weights : List ℕ) → (ℕ → ℕ) → (n : ℕ) → ℕ
+recordSum ws r zero = 0
+recordSum ws r (suc k) = recordSum ws r k + getD ws (k + 2) 0 * r k
+
 -- x more at node i
 unfoldable pub added : List ℕ → (i x : ℕ) → List ℕ
 added ws i x = set ws i (getD ws i 0 + x)
