@@ -69,7 +69,7 @@ within-plan : (q : List ℕ) (i : ℕ) → getD q i 0 ≡ 1 → i < length q
 within-plan q i e = by-cases (decLt i (length q)) (λ l. l) (λ f. absurd (omega (arith, e, List·getD-eq-default q 0 {n = i} (omega (arith, f)))))
 
 -- the choices before a choice are fewer than those before any later position
-choices-later : (vs : List Variable) (x y : ℕ) → x < y → isChoice (getD vs x (chance 0 1)) ≡ true → choiceCount (take x vs) < choiceCount (take y vs)
+pub choices-later : (vs : List Variable) (x y : ℕ) → x < y → isChoice (getD vs x (chance 0 1)) ≡ true → choiceCount (take x vs) < choiceCount (take y vs)
 unfolding choiceCount isChoice
 choices-later vs x zero h e = absurd (omega arith)
 choices-later [] x (suc y) h e = absurd (false≢true e)
@@ -127,7 +127,7 @@ weights-same t u u′ k e =
     (rw (s .0) refl, rw (s .1) refl)
 
 -- the mark of record k, by the number of its choice
-mark-number : (t : Table) (u : List ℕ) (k : ℕ) → markAt t u k ≡ getD u (choiceCount (take (recordAt (t .records) k .position) (t .variables))) 0
+pub mark-number : (t : Table) (u : List ℕ) (k : ℕ) → markAt t u k ≡ getD u (choiceCount (take (recordAt (t .records) k .position) (t .variables))) 0
 unfolding markAt marksFrom
 mark-number t u k = rw (getD-drop, add-zero) refl
 
