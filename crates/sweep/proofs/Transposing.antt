@@ -1,12 +1,13 @@
 -- The laws of the pass down: it is the transpose of the pass up, and it stays within its budget.
 -- Assumes of the arcs that children have smaller numbers, and of the weights that there is one for each node.
 use Prim.Native.Nat.{ℕ, zero, suc, _+_, _*_, _≤_, _<_, _^_}
-use native.Mathlib.Nat.{le-refl, mul-le-mul-left, eq-or-lt-of-le}
+use native.Mathlib.Nat.{le-refl, zero-add, mul-le-mul-left, eq-or-lt-of-le}
+use native.Mathlib.Decide.{ℕ-discrete}
 use native.Mathlib.Omega.{arith}
 use mathlib.Core.Path.{_≡_, refl, ap, _∙_}
-use mathlib.Core.Logic.{⊎-elim}
+use mathlib.Core.Logic.{⊎-elim, by-cases}
 use mathlib.Core.List.{List}
-use lib.ListN.{length, getD, set, length-set}
+use lib.ListN.{length, getD, set, replicate, length-set, length-replicate, getD-replicate}
 use lib.Seq.{getD-set-same, getD-set-other}
 use Rattle.scoring.specs.Passes.{Arcs}
 use Rattle.sweep.specs.Down.{dot, recordSum, added, handOn, passDown, Budget}
@@ -40,14 +41,39 @@ dot-next ws v k =
 -- ---------------------------------------------------------------------------
 -- A node hands its weight on
 
+-- at n, the number that the code has for node i, a sum fits where it does at i
+pub sum-fits : (ws : List ℕ) (n i x : ℕ) → n ≡ i → getD ws i 0 + x < 2 ^ 64 → getD ws n 0 + x < 2 ^ 64
+sum-fits ws n i x e h = rw e h
+
+-- writing the sum at n is the addition at node i
+pub added-is : (ws : List ℕ) (n i x : ℕ) → n ≡ i → set ws n (getD ws n 0 + x) ≡ added ws i x
+unfolding added
+added-is ws n i x e = rw e
+
+-- the cell that an addition writes
+added-here : (ws : List ℕ) (i x : ℕ) → i < length ws → getD (added ws i x) i 0 ≡ getD ws i 0 + x
+unfolding added
+added-here ws i x h = getD-set-same ws i _ 0 h
+
+-- no weight becomes less
+added-le : (ws : List ℕ) (i x j : ℕ) → i < length ws → getD ws j 0 ≤ getD (added ws i x) j 0
+unfolding added
+added-le ws i x j h =
+    by-cases (ℕ-discrete i j)
+    (λ e. rw (← e, getD-set-same ws i (getD ws i 0 + x) 0 h) (omega arith))
+    (λ ne. rw (getD-set-other ws i j (getD ws i 0 + x) 0 (omega arith)) (le-refl _))
+
+-- the cells after it stay
 added-other : (ws : List ℕ) (i x j : ℕ) → i < j → getD (added ws i x) j 0 ≡ getD ws j 0
 unfolding added
 added-other ws i x j h = getD-set-other ws i j _ 0 (omega arith)
 
+-- an addition keeps the length
 pub added-length : (ws : List ℕ) (i x : ℕ) → length (added ws i x) ≡ length ws
 unfolding added
 added-length ws i x = simp length-set refl
 
+-- a handing on keeps the length
 pub hand-on-length : (a : Arcs) (m : ℕ) (ws : List ℕ) → length (handOn a m ws) ≡ length ws
 unfolding handOn
 hand-on-length a m ws = rw (added-length, added-length)
@@ -66,6 +92,38 @@ hand-on-dot a m ws v h l size =
     let one = added ws (getD (a .high) m 0) x in
     let long = added-length ws (getD (a .high) m 0) x in
     omega (arith, dot-added ws v (getD (a .high) m 0) x m h (omega arith), dot-added one v (getD (a .low) m 0) y m l (omega arith))
+
+-- what `hand_on` asks of its arrays: children have smaller numbers, and what they come to fits
+abbrev Handed : Arcs → (m : ℕ) → List ℕ → Type 0
+Handed a m ws =
+    (getD (a .high) m 0 < m) × (getD (a .low) m 0 < m) × ((i : ℕ) → i < m → getD (handOn a m ws) i 0 ≤ 2 ^ 56)
+
+-- the first addition fits; n and h are the numbers that the code has for the node and its hi child
+pub first-fits : (a : Arcs) (m : ℕ) (ws : List ℕ) → Handed a m ws → m ≤ length ws → (n h : ℕ) → n ≡ m → h ≡ getD (a .high) m 0 → getD ws h 0 + getD ws n 0 * getD (a .highWeights) n 0 ≤ 2 ^ 56
+unfolding handOn
+first-fits a m ws fits size n h en eh =
+    let hi = fits .0 in
+    let lo = fits .1 in
+    let x = getD ws m 0 * getD (a .highWeights) m 0 in
+    let high = getD (a .high) m 0 in
+    let long = added-length ws high x in
+    rw (en, eh) (omega (arith, fits .2 high hi, added-here ws high x (omega arith), added-le (added ws high x) (getD (a .low) m 0) (getD ws m 0 * getD (a .lowWeights) m 0) high (omega arith)))
+
+-- the second addition fits, to the weights `one` that the first has left
+pub second-fits : (a : Arcs) (m : ℕ) (ws : List ℕ) → Handed a m ws → m ≤ length ws → (one : List ℕ) (n h l : ℕ) → n ≡ m → h ≡ getD (a .high) m 0 → l ≡ getD (a .low) m 0 → one ≡ added ws h (getD ws n 0 * getD (a .highWeights) n 0) → getD one l 0 + getD ws n 0 * getD (a .lowWeights) n 0 ≤ 2 ^ 56
+unfolding handOn
+second-fits a m ws fits size one n h l en eh el e1 =
+    let lo = fits .1 in
+    let x = getD ws m 0 * getD (a .highWeights) m 0 in
+    let high = getD (a .high) m 0 in
+    let low = getD (a .low) m 0 in
+    let long = added-length ws high x in
+    rw (e1, en, eh, el) (omega (arith, fits .2 low lo, added-here (added ws high x) low (getD ws m 0 * getD (a .lowWeights) m 0) (omega arith)))
+
+-- the two additions are the handing on
+pub both-added : (a : Arcs) (m : ℕ) (ws : List ℕ) (one two : List ℕ) (n h l : ℕ) → n ≡ m → h ≡ getD (a .high) m 0 → l ≡ getD (a .low) m 0 → one ≡ added ws h (getD ws n 0 * getD (a .highWeights) n 0) → two ≡ added one l (getD ws n 0 * getD (a .lowWeights) n 0) → two ≡ handOn a m ws
+unfolding handOn
+both-added a m ws one two n h l en eh el e1 e2 = rw (e2, e1, en, eh, el)
 
 -- ---------------------------------------------------------------------------
 -- The pass down is the transpose of the pass up
@@ -122,3 +180,46 @@ dot-term ws v i (suc n) h =
 pub budget-weight : {a : Arcs} {n : ℕ} {scales : ℕ → ℕ} {ws : List ℕ} → Budget a n scales ws → (i : ℕ) → i < n + 2 → getD ws i 0 ≤ 2 ^ 56
 budget-weight {a} {n} {scales} {ws} b i h =
     omega (arith, b .total, dot-term ws scales i (n + 2) h, mul-le-mul-left (getD ws i 0) (b .positive i))
+
+-- ---------------------------------------------------------------------------
+-- A turn of the pass, from k records to j, one less; node is the number that the code has for the node
+
+-- the turn may call `hand_on`
+pub turn-fits : {a : Arcs} {k : ℕ} {scales : ℕ → ℕ} {ws : List ℕ} → Budget a k scales ws → k + 2 ≤ length ws → (j node : ℕ) → k ≡ suc j → node ≡ j + 2 → Handed a node ws
+turn-fits b size j node ek en =
+    let b = rw ek at b in
+    rw en (b .highLess j (omega arith), b .lowLess j (omega arith), budget-weight (budget-next b (omega arith)))
+
+-- the turn keeps the budget
+pub turn-budget : {a : Arcs} {k : ℕ} {scales : ℕ → ℕ} {ws : List ℕ} → Budget a k scales ws → k + 2 ≤ length ws → (j node : ℕ) → k ≡ suc j → node ≡ j + 2 → Budget a j scales (handOn a node ws)
+turn-budget b size j node ek en = rw en (budget-next (rw ek at b) (omega arith))
+
+-- what is still to be passed down after the turn gives the same
+pub turn-passes : (a : Arcs) (k : ℕ) (ws : List ℕ) (j node : ℕ) → k ≡ suc j → node ≡ j + 2 → passDown a j (handOn a node ws) ≡ passDown a k ws
+unfolding passDown
+turn-passes a k ws j node ek en = rw (ek, en) refl
+
+-- with no records left, the weights are what the pass gives
+pub pass-end : (a : Arcs) (k : ℕ) (ws whole : List ℕ) → k ≡ 0 → passDown a k ws ≡ whole → ws ≡ whole
+unfolding passDown
+pass-end a k ws whole ek e = rw ek at e
+
+-- ---------------------------------------------------------------------------
+-- One weight to begin with
+
+-- a cell of a list of zeros
+zeros-at : (m n : ℕ) → n < m → _≡_ {A = ℕ} (getD (replicate m 0) n 0) 0
+zeros-at m n h = getD-replicate m n 0 0 h
+
+-- without weights the sum is zero
+dot-zeros : (m : ℕ) (v : ℕ → ℕ) (n : ℕ) → n ≤ m → dot (replicate m 0) v n ≡ 0
+unfolding dot
+dot-zeros m v zero h = refl
+dot-zeros m v (suc n) h = rw (zeros-at m n (omega arith), dot-zeros m v n (omega arith)) (omega arith)
+
+-- with weight x at node i alone, the sum is its term
+pub dot-one : (m : ℕ) (v : ℕ → ℕ) (i x n : ℕ) → i < n → n ≤ m → dot (set (replicate m 0) i x) v n ≡ x * v i
+unfolding added
+dot-one m v i x n h l =
+    let sum : dot (set (replicate m 0) i (getD (replicate m 0) i 0 + x)) v n ≡ dot (replicate m 0) v n + x * v i = dot-added (replicate m 0) v i x n h (simp length-replicate (omega arith)) in
+    rw (zeros-at m i (omega arith), dot-zeros m v n l, zero-add x, zero-add (x * v i)) at sum

@@ -1,37 +1,30 @@
+-- `add` meets its contract: the cell of the node is the one that is read and written. Assumes nothing.
+use native.Mathlib.Omega.{arith}
 use borrow.Author.Needs.{needs}
+use Rattle.sweep.proofs.Transposing.{sum-fits, added-is}
 use Rattle.sweep.proofs.down.add.Statement.{statement}
 use Rattle.sweep.proofs.down.add.Tie as tie
-use Rattle.sweep.proofs.down.add.Reads as reads
-use Rattle.sweep.proofs.down.add.Lts as lts
-use Rattle.diagram.proofs.numbering.Node.number.Reads as number-reads
 
--- src/down.rt:63:9
 number-requires : tie.Need-number-requires
 number-requires c κs = search needs
 
--- src/down.rt:64:18
 mul-weights : tie.Need-mul-weights
 mul-weights c = search needs
 
--- src/down.rt:64:18
 element-copy-out-weights : tie.Need-element-copy-out-weights
 element-copy-out-weights c = search needs
 
--- src/down.rt:64:18
 add-weights : tie.Need-add-weights
-add-weights c = ?
+add-weights c = omega (arith, sum-fits (c .before .before .args .weights .now) _ _ (c .before .before .args .x) (c .before .number .ensures) (c .before .before .pre .1))
 
--- src/down.rt:64:5
 mul-weights-2 : tie.Need-mul-weights-2
 mul-weights-2 c = search needs
 
--- src/down.rt:64:5
 element-write-weights : tie.Need-element-write-weights
 element-write-weights c = search needs
 
--- src/down.rt:59:1
 returns : tie.Need-returns
-returns c = ?
+returns c = added-is _ _ _ _ (c .before .number .ensures)
 
 pub add-spec : {M : Type 1} → statement M
 add-spec =

@@ -1,67 +1,73 @@
+-- `hand_on` meets its contract: its two additions are the definition's, and both fit because what the children come to fits. Assumes nothing.
+use Prim.Native.Nat.{_+_, _*_, _≤_, _^_}
+use native.Mathlib.Omega.{arith}
+use lib.ListN.{getD}
 use borrow.Author.Needs.{needs}
+use Rattle.scoring.specs.Passes.{Arcs}
+use Rattle.sweep.proofs.Transposing.{added-length, first-fits, second-fits, both-added}
 use Rattle.sweep.proofs.down.hand_on.Statement.{statement}
 use Rattle.sweep.proofs.down.hand_on.Tie as tie
-use Rattle.sweep.proofs.down.hand_on.Reads as reads
-use Rattle.sweep.proofs.down.hand_on.Lts as lts
-use Rattle.diagram.proofs.numbering.Node.number.Reads as number-reads
-use Rattle.reading.proofs.child_of.Reads as child-of-reads
-use Rattle.sweep.proofs.down.add.Reads as add-reads
 
--- src/down.rt:52:9
+abbrev arcs : tie.Start → Arcs
+arcs c = record { high = c .args .high .now; low = c .args .low .now; highWeights = c .args .high-weights .now; lowWeights = c .args .low-weights .now }
+
 number-requires : tie.Need-number-requires
 number-requires c κs = search needs
 
--- src/down.rt:53:13
 mul-w : tie.Need-mul-w
 mul-w c = search needs
 
--- src/down.rt:53:13
 element-copy-out-w : tie.Need-element-copy-out-w
 element-copy-out-w c = search needs
 
--- src/down.rt:54:18
 child-of-requires : tie.Need-child-of-requires
 child-of-requires c κs = search needs
 
--- src/down.rt:54:44
 mul-add : tie.Need-mul-add
 mul-add c = search needs
 
--- src/down.rt:54:44
 element-copy-out-add : tie.Need-element-copy-out-add
 element-copy-out-add c = search needs
 
--- src/down.rt:54:40
+-- the hi child's sum, by the numbers that the code reads at
+first-sum : (c : tie.After-add-arg2) → getD (c .before .before .before .before .before .args .weights .now) (c .before .child-of .result .0) 0 + getD (c .before .before .before .before .before .args .weights .now) (c .before .before .before .before .number .result) 0 * getD (c .before .before .before .before .before .args .high-weights .now) (c .before .before .before .before .number .result) 0 ≤ 2 ^ 56
+first-sum c =
+    let start = c .before .before .before .before .before in
+    let size = start .pre .1 in
+    first-fits (arcs start) (start .args .node .0) (start .args .weights .now) (start .pre .0) (omega arith) _ _ (c .before .before .before .before .number .ensures) (c .before .child-of .ensures)
+
 mul-add-2 : tie.Need-mul-add-2
-mul-add-2 c = ?
+mul-add-2 c = omega (arith, first-sum c)
 
--- src/down.rt:54:5
 add-requires : tie.Need-add-requires
-add-requires c κs = ?
+add-requires c κs = (c .before .before .before .before .before .pre .1, omega (arith, first-sum c))
 
--- src/down.rt:55:18
 child-of-requires-2 : tie.Need-child-of-requires-2
 child-of-requires-2 c κs = search needs
 
--- src/down.rt:55:43
 mul-add-3 : tie.Need-mul-add-3
 mul-add-3 c = search needs
 
--- src/down.rt:55:43
 element-copy-out-add-2 : tie.Need-element-copy-out-add-2
 element-copy-out-add-2 c = search needs
 
--- src/down.rt:55:39
+-- the lo child's sum, by the numbers that the code reads at
+second-sum : (c : tie.After-add-arg4) → getD (c .before .before .before .add .last .0) (c .before .child-of2 .result .0) 0 + getD (c .before .before .before .before .before .before .before .before .before .args .weights .now) (c .before .before .before .before .before .before .before .before .number .result) 0 * getD (c .before .before .before .before .before .before .before .before .before .args .low-weights .now) (c .before .before .before .before .before .before .before .before .number .result) 0 ≤ 2 ^ 56
+second-sum c =
+    let start = c .before .before .before .before .before .before .before .before .before in
+    let size = start .pre .1 in
+    second-fits (arcs start) (start .args .node .0) (start .args .weights .now) (start .pre .0) (omega arith) (c .before .before .before .add .last .0) _ _ _ (c .before .before .before .before .before .before .before .before .number .ensures) (c .before .before .before .before .before .child-of .ensures) (c .before .child-of2 .ensures) (c .before .before .before .add .ensures)
+
 mul-add-4 : tie.Need-mul-add-4
-mul-add-4 c = ?
+mul-add-4 c = omega (arith, second-sum c)
 
--- src/down.rt:55:5
 add-requires-2 : tie.Need-add-requires-2
-add-requires-2 c κs = ?
+add-requires-2 c κs = (rw (c .before .before .before .add .ensures, added-length) (c .before .before .before .before .before .before .before .before .before .pre .1), omega (arith, second-sum c))
 
--- src/down.rt:40:1
 returns : tie.Need-returns
-returns c = ?
+returns c =
+    let start = c .before .before .before .before .before .before .before .before .before .before in
+    both-added (arcs start) (start .args .node .0) (start .args .weights .now) (c .before .before .before .before .add .last .0) _ _ _ _ (c .before .before .before .before .before .before .before .before .before .number .ensures) (c .before .before .before .before .before .before .child-of .ensures) (c .before .before .child-of2 .ensures) (c .before .before .before .before .add .ensures) (c .add2 .ensures)
 
 pub hand-on-spec : {M : Type 1} → statement M
 hand-on-spec =

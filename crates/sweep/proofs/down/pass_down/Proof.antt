@@ -1,43 +1,77 @@
+-- `pass_down` meets its contract. The loop's invariant: passing down the first k records from the weights as they are gives what passing down all gives
+-- from the weights at the start, and they are within the budget of k records. The measure is k. Assumes nothing.
+use Prim.Native.Nat.{ℕ, suc, _-_, _≤_}
+use native.Mathlib.Nat.{le-refl}
+use native.Mathlib.Omega.{arith}
+use mathlib.Core.Path.{_≡_, refl, _∙_}
+use mathlib.Core.List.{List}
+use lib.ListN.{length}
+use Rattle.scoring.specs.Passes.{Arcs}
+use Rattle.sweep.specs.Down.{passDown, Budget}
+use Rattle.sweep.proofs.Transposing.{hand-on-length, turn-fits, turn-budget, turn-passes, pass-end}
 use Rattle.sweep.proofs.down.pass_down.Statement.{statement}
 use Rattle.sweep.proofs.down.pass_down.Tie as tie
-use Rattle.sweep.proofs.down.pass_down.Reads as reads
-use Rattle.sweep.proofs.down.pass_down.Lts as lts
-use Rattle.diagram.proofs.numbering.Node.of_record.Reads as of-record-reads
-use Rattle.sweep.proofs.down.hand_on.Reads as hand-on-reads
+
+-- the invariant, over plain lists
+abbrev Pass : Arcs → (n : ℕ) → (weights₀ weights : List ℕ) → (k : ℕ) → Type 0
+Pass a n weights₀ weights k =
+    (k ≤ n) ×
+    (length weights ≡ 256) ×
+    (passDown a k weights ≡ passDown a n weights₀) ×
+    ((scales : ℕ → ℕ) → Budget a n scales weights₀ → Budget a k scales weights)
 
 abbrev Inv-loop : tie.InvT-loop
-Inv-loop n high low high-weights low-weights weights₀ k₀ weights k = ?
+Inv-loop n high low high-weights low-weights weights₀ k₀ weights k =
+    Pass (record { high = high; low = low; highWeights = high-weights; lowWeights = low-weights }) n weights₀ weights k
 
 abbrev μ-loop : tie.MeasureT-loop
-μ-loop n high low high-weights low-weights weights₀ k₀ weights k = ?
+μ-loop n high low high-weights low-weights weights₀ k₀ weights k = k
 
--- src/down.rt:26:5
+abbrev arcs : tie.Start Inv-loop μ-loop → Arcs
+arcs c = record { high = c .args .high .now; low = c .args .low .now; highWeights = c .args .high-weights .now; lowWeights = c .args .low-weights .now }
+
 loop-holds : tie.Need-loop-holds Inv-loop μ-loop
-loop-holds c = ?
+loop-holds c = (le-refl _, c .pre .1, refl, λ _ b. b)
 
--- src/down.rt:27:9
 sub-k : tie.Need-sub-k Inv-loop μ-loop
-sub-k c = ?
+sub-k c = omega arith
 
--- src/down.rt:34:13
 of-record-requires : tie.Need-of-record-requires Inv-loop μ-loop
-of-record-requires c κs = ?
+of-record-requires c κs =
+    let few = c .before .before .before .pre .0 .0 in
+    let within = c .before .before .loop .inv .0 in
+    omega arith
 
--- src/down.rt:28:9
 hand-on-requires : tie.Need-hand-on-requires Inv-loop μ-loop
-hand-on-requires c κs = ?
+hand-on-requires c κs =
+    let start = c .before .before .before .before in
+    let inv = c .before .before .before .loop .inv in
+    let few = start .pre .0 .0 in
+    let within = inv .0 in
+    let size = inv .1 in
+    (turn-fits (inv .3 _ (start .pre .0 .1 .1)) (omega arith) (c .before .before .before .loop .k - 1) _ (omega arith) (c .of-record .ensures), size)
 
--- src/down.rt:26:5
 loop-less : tie.Need-loop-less Inv-loop μ-loop
-loop-less c = ?
+loop-less c = omega arith
 
--- src/down.rt:26:5
 loop-again : tie.Need-loop-again Inv-loop μ-loop
-loop-again c = ?
+loop-again c =
+    let start = c .before .before .before .before .before in
+    let at = c .before .before .before .before in
+    let inv = at .loop .inv in
+    let few = start .pre .0 .0 in
+    let within = inv .0 in
+    let size = inv .1 in
+    let one : at .loop .k ≡ suc (at .loop .k - 1) = omega arith in (
+      omega arith,
+      rw (c .hand-on .ensures, hand-on-length) size,
+      rw (c .hand-on .ensures) (turn-passes (arcs start) (at .loop .k) (at .loop .weights) (at .loop .k - 1) (c .before .of-record .result .0) one (c .before .of-record .ensures) ∙ inv .2),
+      λ scales b. rw (c .hand-on .ensures) (turn-budget (inv .3 scales b) (omega arith) (at .loop .k - 1) (c .before .of-record .result .0) one (c .before .of-record .ensures)),
+    )
 
--- src/down.rt:13:1
 returns : tie.Need-returns Inv-loop μ-loop
-returns c = ?
+returns c =
+    pass-end (arcs (c .before .before)) (c .before .loop .k) (c .before .loop .weights) _ (omega arith) (c .before .loop .inv .2)
 
 pub pass-down-spec : {M : Type 1} → statement M
 pass-down-spec =
