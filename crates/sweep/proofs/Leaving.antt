@@ -81,16 +81,19 @@ choices-later (chance a b ∷ vs) (suc x) (suc y) h e = choices-later vs x y (om
 -- ---------------------------------------------------------------------------
 -- Shares of a choice
 
+-- a taken choice has its share on the hi arc
 shares-taken : (v : Variable) (m : ℕ) → isChoice v ≡ true → isTaken m ≡ true → (highShare v m ≡ highShare v 1) × (lowShare v m ≡ 0)
 unfolding isChoice highShare lowShare
 shares-taken choice m c e = (rw e refl, rw e refl)
 shares-taken (chance a b) m c e = absurd (false≢true c)
 
+-- a left choice has its share on the lo arc
 shares-left : (v : Variable) (m : ℕ) → isChoice v ≡ true → isTaken m ≡ false → (highShare v m ≡ 0) × (lowShare v m ≡ lowShare v 2)
 unfolding isChoice highShare lowShare
 shares-left choice m c e = (rw e refl, rw e refl)
 shares-left (chance a b) m c e = absurd (false≢true c)
 
+-- the shares of a choice are 1
 shares-full : (v : Variable) → isChoice v ≡ true → (highShare v 1 ≡ 1) × (lowShare v 2 ≡ 1)
 unfolding isChoice highShare lowShare
 shares-full choice c = (refl, refl)
@@ -140,6 +143,7 @@ module _ (t : Table) (formed : Formed (length (t .variables)) (t .records)) (mon
   unfolding isMonotoneAt implies variableAt
   lo-hi k s e c = implied _ (each-assignment _ s (length (t .variables)) e (implied _ (monotone k) c))
 
+  -- so the lo child's value from the next position on is at most the hi child's
   from-lo-hi : (u : List ℕ) (k : ℕ) → isChoice (variableAt t k) ≡ true → valueFrom t u (recordAt (t .records) k .position + 1) (recordAt (t .records) k .lo) ≤ valueFrom t u (recordAt (t .records) k .position + 1) (recordAt (t .records) k .hi)
   unfolding valueFrom
   from-lo-hi u k c =
@@ -151,6 +155,7 @@ module _ (t : Table) (formed : Formed (length (t .variables)) (t .records)) (mon
       (λ s e. lo-hi k (replicate (x + 1) false ++ s) (rw length-append (omega arith)) c)
 
   module _ (shares : Shares (t .variables)) where
+    -- at a choice record no more comes by the lo arc than by the hi arc
     pub low-le-high : (u : List ℕ) (k : ℕ) → isChoice (variableAt t k) ≡ true → lowArc t k * value t u (recordAt (t .records) k .lo) ≤ highArc t k * value t u (recordAt (t .records) k .hi)
     unfolding highArc lowArc place
     low-le-high u k c =
@@ -186,12 +191,15 @@ module _ (t : Table) (formed : Formed (length (t .variables)) (t .records)) (mon
     module _ (k : ℕ) where
       -- record k is of choice i
       module _ (c : isChoice (variableAt t k) ≡ true) (e : choiceCount (take (recordAt (t .records) k .position) (t .variables)) ≡ i) where
+        -- u takes choice i
         mark-taken : isTaken (markAt t u k) ≡ true
         mark-taken = rw (mark-number t u k, e, taken) refl
 
+        -- with choice i left, its mark leaves it
         mark-left : isTaken (markAt t (set u i 2) k) ≡ false
         mark-left = rw (mark-number t (set u i 2) k, e, getD-set-same u i 2 0 (within-plan u i taken)) refl
 
+        -- the children's values stay as they are
         left-high : value t (set u i 2) (recordAt (t .records) k .hi) ≡ value t u (recordAt (t .records) k .hi)
         unfolding variableAt place
         left-high = value-later (recordAt (t .records) k .position) (recordAt (t .records) k .hi) c e (formed .hiLater k)
@@ -200,6 +208,7 @@ module _ (t : Table) (formed : Formed (length (t .variables)) (t .records)) (mon
         unfolding variableAt place
         left-low = value-later (recordAt (t .records) k .position) (recordAt (t .records) k .lo) c e (formed .loLater k)
 
+        -- the value falls to what comes by the lo arc
         own-step : value t (set u i 2) (k + 2) + (value t u (k + 2) - lowArc t k * value t u (recordAt (t .records) k .lo)) ≡ highWeight t u k * value t (set u i 2) (recordAt (t .records) k .hi) + lowWeight t u k * value t (set u i 2) (recordAt (t .records) k .lo)
         own-step =
             let w = weights-taken t u k c mark-taken in
