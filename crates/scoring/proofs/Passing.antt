@@ -125,7 +125,7 @@ arcsInForce n ps hs ls ha la ms W W′ =
       lowWeights = over (byNode (λ k. lowInForce (markAtNode ps ms k) (getD la (k + 2) 0)) n) W′;
     }
 
-scale-drop-le : {vs : List Variable} → Shares vs → (x : ℕ) → scaleOf (drop x vs) ≤ scaleOf vs
+pub scale-drop-le : {vs : List Variable} → Shares vs → (x : ℕ) → scaleOf (drop x vs) ≤ scaleOf vs
 unfolding scaleOf
 scale-drop-le h zero = le-refl _
 scale-drop-le no-shares (suc x) = le-refl _
@@ -141,7 +141,7 @@ module _ {t : Table} {p : List ℕ} {n : ℕ} {ps hs ls ha la ms : List ℕ} (m 
   record-less : (k : ℕ) → k < n → k < 254
   record-less k h = omega (arith, m .size)
 
-  mark-at-node : (k : ℕ) → k < n → markAtNode ps ms k ≡ cond (isChoice (variableAt t k)) (markAt t p k) 3
+  pub mark-at-node : (k : ℕ) → k < n → markAtNode ps ms k ≡ cond (isChoice (variableAt t k)) (markAt t p k) 3
   unfolding markAtNode marksByPosition markOf variableAt markAt
   mark-at-node k h =
       let x = recordAt (t .records) k .position in

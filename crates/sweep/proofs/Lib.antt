@@ -7,3 +7,5 @@ pub mod ForcedLines
 pub mod Transposing
 pub mod Summing
 pub mod Gathering
+pub mod Leaving
+pub mod Deriving

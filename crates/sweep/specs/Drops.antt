@@ -5,10 +5,11 @@ use mathlib.Core.Bool.{Bool, true, cond, _&&_}
 use mathlib.Core.List.{List}
 use lib.ListN.{length, getD, take}
 use lib.Dec.{eqb}
-use Rattle.diagram.specs.Table.{Table, chance, isChoice, choiceCount, scale}
-use Rattle.diagram.specs.Plans.{upperBound, derivative}
+use Rattle.diagram.specs.Table.{Table, chance, recordAt, isChoice, choiceCount, scale}
+use Rattle.diagram.specs.Plans.{openTaken, upperBound, derivative}
 use Rattle.diagram.proofs.Truth.{Formed}
 use Rattle.diagram.proofs.Rising.{Monotone}
+use Rattle.scoring.specs.Value.{value, variableAt, lowArc}
 
 -- ---------------------------------------------------------------------------
 -- The loss of a record
@@ -44,6 +45,16 @@ pub record Losing (a : Passes) (n : ℕ) : Type 0 where
   pub gains : (x k : ℕ) → k < n → opensAt a x k ≡ true → getD (a .lowArcs) (k + 2) 0 * getD (a .values) (getD (a .low) (k + 2) 0) 0 ≤ getD (a .values) (k + 2) 0
   pub fits : (k : ℕ) → getD (a .values) k 0 ≤ 2 ^ 56
   pub sums : (x : ℕ) → lossSum a x n ≤ 2 ^ 56
+
+-- Whether record k is of choice i
+unfoldable pub isOf : Table → (i k : ℕ) → Bool
+isOf t i k =
+    isChoice (variableAt t k) && eqb (choiceCount (take (recordAt (t .records) k .position) (t .variables))) i
+
+-- What leaving choice i loses of record k's value
+unfoldable pub shortfall : Table → (plan : List ℕ) → (i k : ℕ) → ℕ
+shortfall t p i k =
+    cond (isOf t i k) (value t (openTaken p) (k + 2) - lowArc t k * value t (openTaken p) (recordAt (t .records) k .lo)) 0
 
 -- ---------------------------------------------------------------------------
 -- Drops by position and by choice number

@@ -1,37 +1,61 @@
+-- `two_passes` meets its contract: the arrays hold the table and the plan, and the drops by position are those of the choices. Assumes nothing.
+use Prim.Native.Nat.{_<_}
+use native.Mathlib.Omega.{arith}
+use mathlib.Core.Path.{_≡_, refl, sym, _∙_}
+use lib.ListN.{length}
+use Rattle.diagram.specs.Table.{tableOf}
+use Rattle.diagram.specs.Plans.{derivative}
+use Rattle.reading.proofs.Counting.{variables-length}
+use Rattle.reading.proofs.Accepted.{records-length, passed-variables, passed-choices, passed-monotone}
+use Rattle.scoring.specs.Passes.{Marked}
+use Rattle.scoring.proofs.Bounding.{marked, records-few}
+use Rattle.sweep.proofs.Deriving.{drops-chosen, drops-all}
 use borrow.Author.Needs.{needs}
 use Rattle.sweep.proofs.two_pass.two_passes.Statement.{statement}
 use Rattle.sweep.proofs.two_pass.two_passes.Tie as tie
-use Rattle.sweep.proofs.two_pass.two_passes.Reads as reads
-use Rattle.sweep.proofs.two_pass.two_passes.Lts as lts
-use Rattle.reading.proofs.record_count.Reads as record-count-reads
-use Rattle.scoring.proofs.marks_by_position.Reads as marks-by-position-reads
-use Rattle.scoring.proofs.lay_out.Reads as lay-out-reads
-use Rattle.sweep.proofs.drops.by_choice.Reads as by-choice-reads
-use Rattle.sweep.proofs.two_pass.up_and_down.Reads as up-and-down-reads
 
--- src/two_pass.rt:43:9
+-- the number of records
+size : (c : tie.After-record-count) → c .record-count .result ≡ length (tableOf (c .before .before .before .args .file .now) .records)
+size c = c .record-count .ensures .0 ∙ sym (records-length _)
+
+-- the arrays hold the table and the plan
+holds : (c : tie.After-marks-by-position) →
+    let start = c .before .before .before .before .before .before .before .before .before .before in
+    let arrays = c .before .lay-out .last .1 .1 in
+    Marked (tableOf (start .args .file .now)) (start .args .plan .now) (c .before .before .before .before .before .before .before .record-count .result) (arrays .0) (arrays .1 .0) (arrays .1 .1 .0) (arrays .1 .1 .1 .0) (arrays .1 .1 .1 .1 .0) (c .marks-by-position .result)
+holds c =
+    let start = c .before .before .before .before .before .before .before .before .before .before in
+    let laid = c .before .lay-out .ensures in
+    marked (start .pre .0) _ (size (c .before .before .before .before .before .before .before)) _ _ _ (start .pre .1 .0) (start .pre .1 .1) (laid .0) (laid .1 .0) (laid .1 .1 .0) (c .marks-by-position .ensures)
+
 record-count-requires : tie.Need-record-count-requires
 record-count-requires c κs = search needs
 
--- src/two_pass.rt:49:9
 lay-out-requires : tie.Need-lay-out-requires
-lay-out-requires c κs = ?
+lay-out-requires c κs = ((c .before .before .before .before .before .before .before .before .pre .0, size (c .before .before .before .before .before)), (refl, refl, refl, refl, refl))
 
--- src/two_pass.rt:58:17
 marks-by-position-requires : tie.Need-marks-by-position-requires
 marks-by-position-requires c κs = search needs
 
--- src/two_pass.rt:59:9
 up-and-down-requires : tie.Need-up-and-down-requires
-up-and-down-requires c κs = ?
+up-and-down-requires c κs =
+    let passed = c .before .before .before .before .before .before .before .before .before .before .before .before .before .before .before .before .pre .0 in
+    (_, _, holds (c .before .before .before .before .before .before), passed-monotone passed, c .before .before .before .before .before .before .before .lay-out .ensures .1 .1 .1, records-few passed _ (size (c .before .before .before .before .before .before .before .before .before .before .before .before .before)) .0)
 
--- src/two_pass.rt:72:16
 by-choice-requires : tie.Need-by-choice-requires
-by-choice-requires c κs = ?
+by-choice-requires c κs =
+    let passed = c .before .before .before .before .before .before .before .before .before .before .before .before .before .before .before .before .before .before .before .pre .0 in
+    (omega (arith, passed-variables passed, variables-length (c .before .before .before .before .before .before .before .before .before .before .before .before .before .before .before .before .before .before .before .args .file .now)), passed-choices passed)
 
--- src/two_pass.rt:37:1
 returns : tie.Need-returns
-returns c = ?
+returns c =
+    let start = c .before .before .before .before .before .before .before .before .before .before .before .before .before .before .before .before .before .before .before .before in
+    let passed = start .pre .0 in
+    let swept = c .before .before .before .up-and-down .ensures _ _ (holds (c .before .before .before .before .before .before .before .before .before .before)) (passed-monotone passed) (c .before .before .before .before .before .before .before .before .before .before .before .lay-out .ensures .1 .1 .1) in
+    let t = tableOf (start .args .file .now) in
+    let p = start .args .plan .now in
+    let few : length (t .variables) < 64 = omega (arith, passed-variables passed) in
+    (swept .0, c .by-choice .ensures (derivative t p) (drops-chosen t p few (swept .1)) ∙ rw (drops-all t p (start .pre .1 .0)) refl)
 
 pub two-passes-spec : {M : Type 1} → statement M
 two-passes-spec =

@@ -1,0 +1,346 @@
+-- The drops from the two passes: under the weights that the pass down gives the nodes, the losses at an open choice's records come to its drop, and at
+-- every other position to 0; all sums fit.
+-- Assumes of the arrays that they hold the table and the plan (`Marked`), and of the table what check 18 finds (`Monotone`).
+use Prim.Native.Nat.{ℕ, zero, suc, _+_, _-_, _*_, _≤_, _<_, _^_}
+use native.Mathlib.Nat.{le-of-eq, add-zero, zero-add, add-sub-of-le}
+use native.Mathlib.Decide.{decLt}
+use native.Mathlib.Omega.{arith}
+use mathlib.Core.Path.{_≡_, refl, ap, sym, _∙_, fun-ext}
+use mathlib.Core.Bool.{Bool, true, false, cond, false≢true}
+use mathlib.Core.Logic.{by-cases}
+use mathlib.Core.List.{List, [], _∷_}
+use lib.ListN.{length, getD, set, take, drop, replicate, length-set, length-replicate, getD-replicate, List·getD-eq-default}
+use lib.Seq.{getD-drop, getD-append-add}
+use lib.Dec.{eqb}
+use borrow.Author.Tests.{eqb-true, eq-eqb}
+use Rattle.diagram.specs.Table.{chance, Table, Record, sequence, recordAt, root, isChoice, choiceCount, scaleOf, scale}
+use Rattle.diagram.specs.Score.{score}
+use Rattle.diagram.specs.Plans.{openTaken, isOpen, upperBound, derivative, derivatives}
+use Rattle.diagram.specs.Checks.{positionOf}
+use Rattle.diagram.proofs.Every.{both, and-true-both, both-ways}
+use Rattle.diagram.proofs.Places.{sequence-length, sequence-at}
+use Rattle.diagram.proofs.Locality.{position-le, position-less}
+use Rattle.diagram.proofs.FirstVariable.{score-le-scale, scale-positive}
+use Rattle.diagram.proofs.Rising.{Monotone}
+use Rattle.reading.proofs.Pairing.{column-at}
+use Rattle.scoring.specs.Value.{place, value, gap, variableAt, markAt, highWeight, lowWeight}
+use Rattle.scoring.specs.Passes.{over, byNode, highInForce, lowInForce, markAtNode, Arcs, passUp, Fits, Marked}
+use Rattle.scoring.proofs.Values.{gap-scale, shares-drop, weights-scale, value-le, value-false, value-true, value-step, score-value}
+use Rattle.scoring.proofs.Over.{over-getD, over-sequence-at, over-at}
+use Rattle.scoring.proofs.Passing.{choices-before, scale-drop-le, position-within, mark-at-node, high-in-force, low-in-force, passed-values, marked-fits}
+use Rattle.sweep.specs.Down.{dot, recordSum, passDown, Budget}
+use Rattle.sweep.specs.Drops.{Passes, lossAt, opensAt, lossSum, Losing, isOf, shortfall, derivativeAt, Chosen}
+use Rattle.sweep.proofs.Transposing.{transposed, dot-one}
+use Rattle.sweep.proofs.Leaving.{choices-later, mark-number, open-gains, left-step}
+
+-- ---------------------------------------------------------------------------
+-- Numbers and lists
+
+-- a sum of zeros
+record-sum-zero : (ws : List ℕ) (n : ℕ) → recordSum ws (λ _. 0) n ≡ 0
+unfolding recordSum
+record-sum-zero ws zero = refl
+record-sum-zero ws (suc k) = omega (arith, record-sum-zero ws k)
+
+-- a mark in force that is 0 is a choice's own
+open-mark : (b : Bool) (m : ℕ) → cond b m 3 ≡ 0 → (b ≡ true) × (m ≡ 0)
+open-mark true m e = (refl, e)
+open-mark false m e = absurd (omega arith)
+
+-- a test that does not hold is false
+is-false : (b : Bool) → (b ≡ true → ⊥) → b ≡ false
+is-false true f = absurd (f refl)
+is-false false f = refl
+
+-- a mark 0 within a plan is an open line
+open-within : (p : List ℕ) (i : ℕ) → i < length p → getD p i 0 ≡ 0 → isOpen p i ≡ true
+unfolding isOpen
+open-within [] i h e = absurd (omega arith)
+open-within (m ∷ p) zero h e = eq-eqb m 0 e
+open-within (m ∷ p) (suc i) h e = open-within p i (omega arith) e
+
+-- an open line has the mark 0
+open-zero : (p : List ℕ) (i : ℕ) → isOpen p i ≡ true → getD p i 0 ≡ 0
+unfolding isOpen
+open-zero [] i o = refl
+open-zero (m ∷ p) zero o = eqb-true m 0 o
+open-zero (m ∷ p) (suc i) o = open-zero p i o
+
+-- a bound of two lists is one of the first written over the second
+over-bound : (new old : List ℕ) (b : ℕ) → ((i : ℕ) → i < length new → getD new i 0 ≤ b) → ((i : ℕ) → getD old i 0 ≤ b) → (i : ℕ) → getD (over new old) i 0 ≤ b
+unfolding over
+over-bound new old b h g i =
+    by-cases (decLt i (length new))
+    (λ l. rw (over-getD new old i l) (h i l))
+    (λ f.
+    let e : length new + (i - length new) ≡ i = add-sub-of-le (omega (arith, f)) in
+    rw (← e, getD-append-add, getD-drop) (g (length new + (i - length new))))
+
+-- zeros are below every bound
+zeros-bound : (n b i : ℕ) → getD (replicate n 0) i 0 ≤ b
+zeros-bound n b i =
+    by-cases (decLt i n)
+    (λ l. rw (getD-replicate {A = ℕ} n i 0 0 l) (omega arith))
+    (λ f. rw (List·getD-eq-default {A = ℕ} (replicate n 0) 0 {n = i} (rw length-replicate (omega (arith, f)))) (omega arith))
+
+-- zeros with one weight stored
+pub stored-size : (i x : ℕ) → length (set (replicate 256 0) i x) ≡ 256
+stored-size i x = simp (length-set, length-replicate) refl
+
+-- ---------------------------------------------------------------------------
+-- Sums of losses
+
+-- where no record is open at x nothing is lost there
+loss-none : (a : Passes) (x n : ℕ) → ((k : ℕ) → k < n → opensAt a x k ≡ false) → lossSum a x n ≡ 0
+unfolding lossSum
+loss-none a x zero h = refl
+loss-none a x (suc k) h = rw (h k (omega arith), loss-none a x k (λ j l. h j (omega arith))) refl
+
+-- losses that are a number of each record times the node's weight
+loss-sum : (a : Passes) (ws : List ℕ) (r : ℕ → ℕ) (x n : ℕ) → ((k : ℕ) → k < n → cond (opensAt a x k) (lossAt a k) 0 ≡ getD ws (k + 2) 0 * r k) → lossSum a x n ≡ recordSum ws r n
+unfolding lossSum recordSum
+loss-sum a ws r x zero h = refl
+loss-sum a ws r x (suc k) h = rw (h k (omega arith), loss-sum a ws r x k (λ j l. h j (omega arith))) refl
+
+-- arcs, by their arrays
+abbrev pub arcsOf : (hs ls hw lw : List ℕ) → Arcs
+arcsOf hs ls hw lw = record { high = hs; low = ls; highWeights = hw; lowWeights = lw }
+
+-- the arrays from which the drops are summed up
+abbrev pub lossesOf : (ps ls la ms vs ds : List ℕ) → Passes
+lossesOf ps ls la ms vs ds =
+    record { positions = ps; low = ls; lowArcs = la; marks = ms; values = vs; weights = ds }
+
+-- ---------------------------------------------------------------------------
+-- The budget of the pass down
+
+module _ {t : Table} {p : List ℕ} {n : ℕ} {ps hs ls ha la ms : List ℕ} (m : Marked t p n ps hs ls ha la ms) where
+  -- the arrays hold the position and the children of record k
+  position-is : (k : ℕ) → k < n → getD ps (k + 2) 0 ≡ recordAt (t .records) k .position
+  position-is k h = rw (m .positions) (column-at (length (t .variables)) (λ (r : Record). r .position) (t .records) k (omega (arith, m .size)))
+
+  high-is : (k : ℕ) → k < n → getD hs (k + 2) 0 ≡ recordAt (t .records) k .hi
+  high-is k h = rw (m .high) (column-at 0 (λ (r : Record). r .hi) (t .records) k (omega (arith, m .size)))
+
+  low-is : (k : ℕ) → k < n → getD ls (k + 2) 0 ≡ recordAt (t .records) k .lo
+  low-is k h = rw (m .low) (column-at 0 (λ (r : Record). r .lo) (t .records) k (omega (arith, m .size)))
+
+  -- the weights in force
+  module _ {hw lw : List ℕ} (ehw : hw ≡ over (byNode (λ k. highInForce (markAtNode ps ms k) (getD ha (k + 2) 0)) n) (replicate 256 0)) (elw : lw ≡ over (byNode (λ k. lowInForce (markAtNode ps ms k) (getD la (k + 2) 0)) n) (replicate 256 0)) where
+    -- the arrays hold the weights of record k's arcs under the plan with all open lines taken
+    high-weight-is : (k : ℕ) → k < n → getD hw (k + 2) 0 ≡ highWeight t (openTaken p) k
+    high-weight-is k h = rw ehw (over-at (λ k. highInForce (markAtNode ps ms k) (getD ha (k + 2) 0)) (replicate 256 0) n k h ∙ high-in-force m k h)
+
+    low-weight-is : (k : ℕ) → k < n → getD lw (k + 2) 0 ≡ lowWeight t (openTaken p) k
+    low-weight-is k h = rw elw (over-at (λ k. lowInForce (markAtNode ps ms k) (getD la (k + 2) 0)) (replicate 256 0) n k h ∙ low-in-force m k h)
+
+    -- the pass up fits
+    pub fits : Fits (arcsOf hs ls hw lw) n
+    fits = rw (ehw, elw) (marked-fits m (replicate 256 0) (replicate 256 0))
+
+    -- a pass up gives the values
+    pub values-are : {vs : List ℕ} → vs ≡ over (passUp (arcsOf hs ls hw lw) n) (replicate 256 0) → vs ≡ over (sequence (value t (openTaken p)) 0 (n + 2)) (replicate 256 0)
+    values-are evs = evs ∙ rw (ehw, elw, passed-values m (replicate 256 0) (replicate 256 0)) refl
+
+    -- the root's weight to begin with
+    module _ {weight : ℕ} {ws : List ℕ} (ew : weight ≡ gap t 0 (place t (root t))) (ews : ws ≡ set (replicate 256 0) (n + 1) weight) where
+      -- the sum with one weight, the root's
+      root-dot : (v : ℕ → ℕ) → dot ws v (n + 2) ≡ weight * v (n + 1)
+      root-dot v =
+          let few = m .size .1 in
+          rw ews (dot-one 256 v (n + 1) weight (n + 2) (omega arith) (omega arith))
+
+      -- there are 256 weights
+      root-size : length ws ≡ 256
+      root-size = rw ews (stored-size (n + 1) weight)
+
+      -- the root's weight times its scale is the table's scale
+      root-scale : weight * scaleOf (drop (place t (n + 1)) (t .variables)) ≡ scaleOf (t .variables)
+      unfolding root place
+      root-scale = rw (ew, m .size .0) (gap-scale t 0 (place t (length (t .records) + 1)) (omega arith) (position-le (m .formed) _))
+
+      -- the pass down stays within its budget: a node's number is the product of b from its position on
+      pub budget : Budget (arcsOf hs ls hw lw) n (λ i. scaleOf (drop (place t i) (t .variables))) ws
+      unfolding place positionOf
+      budget =
+          record {
+            positive = λ i. scale-positive (shares-drop (m .shares) (place t i));
+            steps = λ k h.
+                let two : k + 2 ≡ suc (suc k) = omega arith in
+                rw (high-weight-is k h, low-weight-is k h, high-is k h, low-is k h, two)
+                (le-of-eq (weights-scale t (m .formed) (m .shares) (openTaken p) k));
+            total = rw (root-dot (λ i. scaleOf (drop (place t i) (t .variables))), root-scale) (m .bounded);
+            highLess = fits .highLess;
+            lowLess = fits .lowLess;
+          }
+
+      -- the root's weight times its value is the score
+      root-score : (u : List ℕ) → weight * value t u (n + 1) ≡ score t u
+      unfolding score root
+      root-score u = rw (ew, m .size .0) (sym (score-value t (m .formed) (m .shares) u (length (t .records) + 1)))
+
+      module _ {ds : List ℕ} (eds : ds ≡ passDown (arcsOf hs ls hw lw) n ws) where
+        -- of the ends, only true counts
+        ends : (u : List ℕ) → dot ds (value t u) 2 ≡ getD ds 1 0
+        unfolding dot
+        ends u = rw (value-false, value-true) (omega arith)
+
+        -- a score, with what values that go by the arcs in force fall short, is the weight that comes to the end true
+        summed : (u : List ℕ) (r : ℕ → ℕ) → ((k : ℕ) → value t u (k + 2) + r k ≡ highWeight t (openTaken p) k * value t u (recordAt (t .records) k .hi) + lowWeight t (openTaken p) k * value t u (recordAt (t .records) k .lo)) → score t u + recordSum ds r n ≡ getD ds 1 0
+        summed u r step =
+            let few = m .size .1 in
+            let all = transposed (arcsOf hs ls hw lw) n ws (value t u) r (fits .highLess) (fits .lowLess) (omega (arith, root-size)) (λ k h. rw (high-weight-is k h, low-weight-is k h, high-is k h, low-is k h) (step k)) in
+            omega (arith, rw (← eds) at all, root-dot (value t u), root-score u, ends u)
+
+        -- the top is the weight that comes to the end true
+        top-is : score t (openTaken p) ≡ getD ds 1 0
+        top-is = omega (arith, summed (openTaken p) (λ _. 0) (λ k. rw add-zero (value-step t (m .formed) (m .shares) (openTaken p) k)), record-sum-zero ds n)
+
+        module _ (monotone : Monotone t) where
+          -- an open line's drop is what its records fall short of, each times its node's weight
+          drop-is : (i : ℕ) → isOpen p i ≡ true → derivative t p i ≡ recordSum ds (shortfall t p i) n
+          unfolding derivative upperBound
+          drop-is i o = rw o (omega (arith, top-is, summed (openTaken (set p i 2)) (shortfall t p i) (left-step t (m .formed) monotone (m .shares) p i o)))
+
+  -- ---------------------------------------------------------------------------
+  -- Records that are open at a position
+
+  -- a record's mark is 0 only where its choice is open
+  mark-open : (k : ℕ) → k < n → markAtNode ps ms k ≡ 0 → (isChoice (variableAt t k) ≡ true) × (isOpen p (choiceCount (take (recordAt (t .records) k .position) (t .variables))) ≡ true)
+  unfolding variableAt
+  mark-open k h e =
+      let s = open-mark (isChoice (variableAt t k)) (markAt t p k) (sym (mark-at-node m k h) ∙ e) in
+      let before = choices-before (t .variables) (recordAt (t .records) k .position) (position-less (m .formed) k) (s .0) in
+      (s .0, open-within p _ (omega (arith, m .plan)) (sym (mark-number t p k) ∙ s .1))
+
+  module _ (vs ds : List ℕ) (x : ℕ) where
+    -- what a record that is open at x says of x
+    opened : (k : ℕ) → k < n → opensAt (lossesOf ps ls la ms vs ds) x k ≡ true → (recordAt (t .records) k .position ≡ x) × (isChoice (getD (t .variables) x (chance 0 1)) ≡ true) × (isOpen p (choiceCount (take x (t .variables))) ≡ true)
+    unfolding opensAt markAtNode variableAt
+    opened k h e =
+        let s = both (eqb (getD ps (k + 2) 0) x) e in
+        let at : recordAt (t .records) k .position ≡ x = sym (position-is k h) ∙ eqb-true _ _ (s .0) in
+        let o = mark-open k h (eqb-true _ _ (s .1)) in
+        (at, rw at at (o .0), rw at at (o .1))
+
+    module _ (c : isChoice (getD (t .variables) x (chance 0 1)) ≡ true) (o : isOpen p (choiceCount (take x (t .variables))) ≡ true) where
+      -- records of one choice stand at one position
+      same-choice : (k : ℕ) → isOf t (choiceCount (take x (t .variables))) k ≡ true → recordAt (t .records) k .position ≡ x
+      unfolding isOf variableAt
+      same-choice k e =
+          let s = both (isChoice (variableAt t k)) e in
+          let y = recordAt (t .records) k .position in
+          let number = eqb-true (choiceCount (take y (t .variables))) _ (s .1) in
+          by-cases (decLt x y)
+          (λ l. absurd (omega (arith, number, choices-later (t .variables) x y l c)))
+          (λ f. by-cases (decLt y x)
+          (λ l. absurd (omega (arith, number, choices-later (t .variables) y x l (s .0))))
+          (λ g. omega (arith, f, g)))
+
+      -- the records that are open at an open choice's position are those of the choice
+      opens-is : (k : ℕ) → k < n → opensAt (lossesOf ps ls la ms vs ds) x k ≡ isOf t (choiceCount (take x (t .variables))) k
+      unfolding opensAt isOf markAtNode variableAt
+      opens-is k h =
+          both-ways _ _
+          (λ e.
+          let at = opened k h e .0 in
+          rw at (and-true-both _ _ c (eq-eqb (choiceCount (take x (t .variables))) _ refl)))
+          (λ e.
+          let at = same-choice k e in
+          let here : getD ps (k + 2) 0 ≡ x = position-is k h ∙ at in
+          let mark : markAtNode ps ms k ≡ 0 = mark-at-node m k h ∙ rw (mark-number t p k, at, c) (open-zero p _ o) in
+          and-true-both _ _ (eq-eqb _ _ here) (eq-eqb _ _ mark))
+
+      -- what is lost at a record is its shortfall times the node's weight
+      loss-is : vs ≡ over (sequence (value t (openTaken p)) 0 (n + 2)) (replicate 256 0) → (k : ℕ) → k < n → cond (opensAt (lossesOf ps ls la ms vs ds) x k) (lossAt (lossesOf ps ls la ms vs ds) k) 0 ≡ getD ds (k + 2) 0 * shortfall t p (choiceCount (take x (t .variables))) k
+      unfolding lossAt shortfall
+      loss-is evs k h =
+          let lo-less = m .formed .loLess k in
+          let own = over-sequence-at (value t (openTaken p)) (replicate 256 0) (n + 2) (k + 2) (omega arith) in
+          let low = over-sequence-at (value t (openTaken p)) (replicate 256 0) (n + 2) (recordAt (t .records) k .lo) (omega arith) in
+          rw (opens-is k h, low-is k h, m .lowArcs k h, evs, own, low) (go (isOf t (choiceCount (take x (t .variables))) k) _ _)
+        where
+          go : (b : Bool) (w y : ℕ) → cond b (w * y) 0 ≡ w * cond b y 0
+          go true w y = refl
+          go false w y = omega arith
+
+    -- nothing is lost where no open choice stands
+    loss-nothing : (isChoice (getD (t .variables) x (chance 0 1)) ≡ true → isOpen p (choiceCount (take x (t .variables))) ≡ true → ⊥) → lossSum (lossesOf ps ls la ms vs ds) x n ≡ 0
+    loss-nothing f =
+        loss-none _ x n (λ k h. is-false _ (λ e. let s = opened k h e in f (s .1) (s .2)))
+
+  -- ---------------------------------------------------------------------------
+  -- Bounds
+
+  -- the top, the values and the drops are at most 2^56
+  pub top-fits : upperBound t p ≤ 2 ^ 56
+  unfolding upperBound scale
+  top-fits = omega (arith, score-le-scale t (m .shares) (openTaken p), m .bounded)
+
+  value-fits : (u : List ℕ) (i : ℕ) → value t u i ≤ 2 ^ 56
+  value-fits u i = omega (arith, value-le t (m .shares) u i, scale-drop-le (m .shares) (place t i), m .bounded)
+
+  drop-fits : (x : ℕ) → derivativeAt t p x ≤ 2 ^ 56
+  unfolding derivativeAt derivative
+  drop-fits x =
+      go (isChoice (getD (t .variables) x (chance 0 1))) (isOpen p (choiceCount (take x (t .variables)))) _
+    where
+      go : (b d : Bool) (y : ℕ) → cond b (cond d (upperBound t p - y) 0) 0 ≤ 2 ^ 56
+      go true true y = omega (arith, top-fits)
+      go true false y = omega arith
+      go false d y = omega arith
+
+  -- ---------------------------------------------------------------------------
+  -- The drops
+
+  module _ (monotone : Monotone t) {hw lw ws vs ds : List ℕ} {weight : ℕ} (ew : weight ≡ gap t 0 (place t (root t))) (ehw : hw ≡ over (byNode (λ k. highInForce (markAtNode ps ms k) (getD ha (k + 2) 0)) n) (replicate 256 0)) (elw : lw ≡ over (byNode (λ k. lowInForce (markAtNode ps ms k) (getD la (k + 2) 0)) n) (replicate 256 0)) (evs : vs ≡ over (sequence (value t (openTaken p)) 0 (n + 2)) (replicate 256 0)) (ews : ws ≡ set (replicate 256 0) (n + 1) weight) (eds : ds ≡ passDown (arcsOf hs ls hw lw) n ws) where
+    -- what is lost at a position is the drop of its choice
+    lost-at : (x : ℕ) → lossSum (lossesOf ps ls la ms vs ds) x n ≡ derivativeAt t p x
+    unfolding derivativeAt derivative
+    lost-at x =
+        let i = choiceCount (take x (t .variables)) in
+        go (isChoice (getD (t .variables) x (chance 0 1))) refl (isOpen p i) refl
+      where
+        go : (b : Bool) → isChoice (getD (t .variables) x (chance 0 1)) ≡ b → (d : Bool) → isOpen p (choiceCount (take x (t .variables))) ≡ d → lossSum (lossesOf ps ls la ms vs ds) x n ≡ cond b (derivative t p (choiceCount (take x (t .variables)))) 0
+        go true c true o =
+            loss-sum _ ds _ x n (loss-is vs ds x c o evs) ∙ sym (drop-is ehw elw ew ews eds monotone (choiceCount (take x (t .variables))) o)
+        go true c false o = loss-nothing vs ds x (λ _ q. false≢true (sym o ∙ q)) ∙ rw o refl
+        go false c d o = loss-nothing vs ds x (λ q _. false≢true (sym c ∙ q))
+
+    -- what is lost at the positions is the drops
+    pub drops-are : sequence (λ x. lossSum (lossesOf ps ls la ms vs ds) x n) 0 64 ≡ sequence (derivativeAt t p) 0 64
+    drops-are = ap (λ (f : ℕ → ℕ). sequence f 0 64) (fun-ext lost-at)
+
+    -- at an open line no less comes by the hi arc than by the lo arc
+    gains : (x k : ℕ) → k < n → opensAt (lossesOf ps ls la ms vs ds) x k ≡ true → getD la (k + 2) 0 * getD vs (getD ls (k + 2) 0) 0 ≤ getD vs (k + 2) 0
+    gains x k h e =
+        let s = opened vs ds x k h e in
+        let lo-less = m .formed .loLess k in
+        let own = over-sequence-at (value t (openTaken p)) (replicate 256 0) (n + 2) (k + 2) (omega arith) in
+        let low = over-sequence-at (value t (openTaken p)) (replicate 256 0) (n + 2) (recordAt (t .records) k .lo) (omega arith) in
+        rw (low-is k h, m .lowArcs k h, evs, own, low)
+        (open-gains t (m .formed) monotone (m .shares) p _ (s .2) k (sym (opens-is vs ds x (s .1) (s .2) k h) ∙ e))
+
+    -- what is lost is not below zero, and fits
+    pub losing : Losing (lossesOf ps ls la ms vs ds) n
+    losing =
+        record {
+          few = m .size .1;
+          within = position-within m;
+          gains = gains;
+          fits = rw evs (over-bound _ _ _ (λ i l. rw (sequence-at (value t (openTaken p)) 0 (n + 2) i 0 (rw sequence-length at l)) (value-fits (openTaken p) (0 + i))) (zeros-bound 256 _));
+          sums = λ x. rw (lost-at x) (drop-fits x);
+        }
+
+-- ---------------------------------------------------------------------------
+-- By choice number
+
+-- the cells of the choices' positions hold the drops of the choices
+pub drops-chosen : (t : Table) (p : List ℕ) {cells : List ℕ} → length (t .variables) < 64 → cells ≡ sequence (derivativeAt t p) 0 64 → Chosen t (derivative t p) cells
+unfolding derivativeAt
+drops-chosen t p few e x h c = rw (e, sequence-at (derivativeAt t p) 0 64 x 0 (omega arith), zero-add x, c) refl
+
+-- one drop for each choice
+pub drops-all : (t : Table) (p : List ℕ) → length p ≡ choiceCount (t .variables) → sequence (derivative t p) 0 (choiceCount (t .variables)) ≡ derivatives t p
+unfolding derivatives
+drops-all t p e = rw e refl
