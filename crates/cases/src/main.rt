@@ -70,7 +70,8 @@ fn end(line: Line, file: &[u8], plan: &[u8]) {
 
 // Runs a service, and writes what it answers.
 fn run(line: Line, file: &[u8], plan: &[u8]) {
-    match line.service {
+    let service = line.service;
+    match service {
         b'r' => show_reading(reading::read(file)),
         b's' => show_score(scoring::score(file, plan)),
         b'w' => run_sweep(file, plan, line.size),
@@ -84,18 +85,28 @@ fn run(line: Line, file: &[u8], plan: &[u8]) {
 fn run_sweep(file: &[u8], plan: &[u8], size: u32) {
     let mut drops = [7u64; 24];
     let n = at_most_24(size);
-    show_sweep(sweep::sweep(file, plan, &mut drops[..n]));
+    sweep_into(file, plan, &mut drops[..n]);
+}
+
+// Runs the sweep, and writes what it answers and leaves in the buffer.
+fn sweep_into(file: &[u8], plan: &[u8], drops: &mut [u64]) {
+    show_sweep(sweep::sweep(file, plan, drops));
     show_text(b", drops");
-    show_numbers(&drops[..n]);
+    show_numbers(drops);
 }
 
 // Runs the filter on a buffer of a given size.
 fn run_filter(file: &[u8], plan: &[u8], percent: u32, size: u32) {
     let mut out = [7u8; 24];
     let n = at_most_24(size);
-    show_filter(sweep::filter(file, plan, percent, &mut out[..n]));
+    filter_into(file, plan, percent, &mut out[..n]);
+}
+
+// Runs the filter, and writes what it answers and leaves in the buffer.
+fn filter_into(file: &[u8], plan: &[u8], percent: u32, out: &mut [u8]) {
+    show_filter(sweep::filter(file, plan, percent, out));
     show_text(b", plan");
-    show_marks(&out[..n]);
+    show_marks(out);
 }
 
 // A size, cut to 24.
@@ -278,11 +289,16 @@ fn show_numbers(numbers: &[u64]) {
     }
 }
 
+// A space and a mark.
+fn show_mark(mark: u8) {
+    show_number(mark as u64);
+}
+
 // Marks, each after a space.
 fn show_marks(marks: &[u8]) {
     let mut i = 0;
     while i < marks.len() {
-        show_number(marks[i] as u64);
+        show_mark(marks[i]);
         i += 1;
     }
 }
