@@ -61,5 +61,6 @@ fn add(weights: &mut [u64; 256], node: Node, x: u64)
     ensures { λ _. ⌜ now (weights .exit) ≡ added (now (weights .entry)) (node .0) x ⌝ }
 {
     let i = node.number();
-    weights[i] = weights[i] + x;
+    let held = weights[i];
+    weights[i] = held + x;
 }

@@ -8,17 +8,17 @@ use Rattle.sweep.proofs.down.add.Tie as tie
 number-requires : tie.Need-number-requires
 number-requires c κs = search needs
 
-mul-weights : tie.Need-mul-weights
-mul-weights c = search needs
+mul-held : tie.Need-mul-held
+mul-held c = search needs
 
-element-copy-out-weights : tie.Need-element-copy-out-weights
-element-copy-out-weights c = search needs
+element-copy-out-held : tie.Need-element-copy-out-held
+element-copy-out-held c = search needs
 
 add-weights : tie.Need-add-weights
 add-weights c = omega (arith, sum-fits (c .before .before .args .weights .now) _ _ (c .before .before .args .x) (c .before .number .ensures) (c .before .before .pre .1))
 
-mul-weights-2 : tie.Need-mul-weights-2
-mul-weights-2 c = search needs
+mul-weights : tie.Need-mul-weights
+mul-weights c = search needs
 
 element-write-weights : tie.Need-element-write-weights
 element-write-weights c = search needs
@@ -31,9 +31,9 @@ add-spec =
     tie.close
     (tie.spec
     number-requires
-    mul-weights
-    element-copy-out-weights
+    mul-held
+    element-copy-out-held
     add-weights
-    mul-weights-2
+    mul-weights
     element-write-weights
     returns)
