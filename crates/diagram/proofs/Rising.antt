@@ -89,7 +89,7 @@ move-up P Q hi lo rises crosses at-hi at-lo h = at-hi (crosses refl h)
 
 module _ (t : Table) (formed : Formed (length (t .variables)) (t .records)) (monotone : Monotone t) where
   -- at a choice record, an assignment that leads from lo to true also leads from hi to true
-  lo-hi : (k : ℕ) (s : List Bool) → length s ≡ length (t .variables) → isChoice (getD (t .variables) (recordAt (t .records) k .position) (chance 0 1)) ≡ true → truth (t .records) s (recordAt (t .records) k .lo) ≡ true → truth (t .records) s (recordAt (t .records) k .hi) ≡ true
+  pub lo-hi : (k : ℕ) (s : List Bool) → length s ≡ length (t .variables) → isChoice (getD (t .variables) (recordAt (t .records) k .position) (chance 0 1)) ≡ true → truth (t .records) s (recordAt (t .records) k .lo) ≡ true → truth (t .records) s (recordAt (t .records) k .hi) ≡ true
   unfolding isMonotoneAt implies
   lo-hi k s e c = implied _ (each-assignment _ s (length (t .variables)) e (implied _ (monotone k) c))
 

@@ -17,7 +17,7 @@ use Rattle.diagram.specs.Words.{wordAt}
 use Rattle.diagram.specs.Score.{implies}
 use Rattle.diagram.proofs.Every.{both, and-true-both}
 use Rattle.diagram.proofs.Implication.{implies-false-end, implies-true-end, implies-same, implies-ends}
-use Rattle.reading.specs.Nodes.{recordsOf, endOf, Held, Pairs, next, cell, AtOnce, zeros, Marked, Room, Passed, Waits, Queue, Explored}
+use Rattle.reading.specs.Nodes.{recordsOf, endOf, Held, Pairs, next, cell, AtOnce, zeros, OnlyKnown, Room, PassedOn, Waits, Queue, Explored}
 use Rattle.reading.proofs.Pairing.{Meets, next-le, next-less, next-split, held-chance, held-choice}
 
 -- ---------------------------------------------------------------------------
@@ -71,7 +71,7 @@ zeros-at (suc n) (suc i) = zeros-at n i
 -- The start
 
 -- where every cell is 0, no pair is marked
-pub marked-none : {met : List ℕ} → met ≡ replicate 65536 0 → Marked met
+pub marked-none : {met : List ℕ} → met ≡ replicate 65536 0 → OnlyKnown met
 marked-none e =
     rw e (record {
       size = length-replicate {A = ℕ} 65536 0;
@@ -80,7 +80,7 @@ marked-none e =
     })
 
 -- one more pair that is known at once
-marked-more : {met : List ℕ} {m n i : ℕ} → Marked met → n < 256 → AtOnce m n → i ≡ m * 256 + n → Marked (set met i 1)
+marked-more : {met : List ℕ} {m n i : ℕ} → OnlyKnown met → n < 256 → AtOnce m n → i ≡ m * 256 + n → OnlyKnown (set met i 1)
 marked-more {met} {m} {n} {i} h small once e =
     record {
       size = simp length-set (h .size);
@@ -95,14 +95,14 @@ marked-more {met} {m} {n} {i} h small once e =
     }
 
 -- the first cell is 1 from the first turn on
-first-marked : {met : List ℕ} (i : ℕ) → Marked met → (0 < i → getD met 0 0 ≡ 1) → getD (set met i 1) 0 0 ≡ 1
+first-marked : {met : List ℕ} (i : ℕ) → OnlyKnown met → (0 < i → getD met 0 0 ≡ 1) → getD (set met i 1) 0 0 ≡ 1
 first-marked {met} zero h e =
     let size = h .size in
     getD-set-same met 0 1 0 (omega arith)
 first-marked {met} (suc i) h e = stays met (suc i) 0 (e (omega arith))
 
 -- a turn marks the pairs 0, i and i, 1 and i, i
-pub mark-turn : {met met′ : List ℕ} {i p q r : ℕ} → Marked met → (0 < i → getD met 0 0 ≡ 1) → i < 256 → p ≡ i → q ≡ i * 256 + 1 → r ≡ i * 256 + i → met′ ≡ set (set (set met p 1) q 1) r 1 → Marked met′ × (getD met′ 0 0 ≡ 1)
+pub mark-turn : {met met′ : List ℕ} {i p q r : ℕ} → OnlyKnown met → (0 < i → getD met 0 0 ≡ 1) → i < 256 → p ≡ i → q ≡ i * 256 + 1 → r ≡ i * 256 + i → met′ ≡ set (set (set met p 1) q 1) r 1 → OnlyKnown met′ × (getD met′ 0 0 ≡ 1)
 mark-turn {met} {i} {p} {q} {r} h first l ep eq er e =
     let once = marked-more {m = 0} {i = p} h l (inl refl) (omega arith) in
     let twice = marked-more {m = i} {n = 1} once (omega arith) (inr (inl refl)) eq in
@@ -115,7 +115,7 @@ at-once v rs m n (inr (inl e)) = rw e (implies-true-end v rs m)
 at-once v rs m n (inr (inr e)) = rw e (implies-same v rs n)
 
 -- the queue with nothing in it
-pub start : {ps hs ls met firsts seconds : List ℕ} → Pairs ps hs ls → Marked met → getD met 0 0 ≡ 1 → length firsts ≡ 65536 → length seconds ≡ 65536 → Queue ps hs ls met firsts seconds 0 0 0 0
+pub start : {ps hs ls met firsts seconds : List ℕ} → Pairs ps hs ls → OnlyKnown met → getD met 0 0 ≡ 1 → length firsts ≡ 65536 → length seconds ≡ 65536 → Queue ps hs ls met firsts seconds 0 0 0 0
 start {ps} {hs} {ls} {met} pairs marked first p q =
     let size = marked .size in
     record {
@@ -204,7 +204,7 @@ module _ {ps hs ls met firsts seconds met′ firsts′ seconds′ : List ℕ} {c
       let e : j ≡ tail = omega arith in
       rw (e, first-new, second-new) new)
 
-  carried : (a b : ℕ) → AtOnce a b ⊎ (Passed ps hs ls met a b ⊎ Waits firsts seconds head tail a b) → AtOnce a b ⊎ (Passed ps hs ls met′ a b ⊎ Waits firsts′ seconds′ head tail′ a b)
+  carried : (a b : ℕ) → AtOnce a b ⊎ (PassedOn ps hs ls met a b ⊎ Waits firsts seconds head tail a b) → AtOnce a b ⊎ (PassedOn ps hs ls met′ a b ⊎ Waits firsts′ seconds′ head tail′ a b)
   carried a b (inl e) = inl e
   carried a b (inr (inl e)) = inr (inl (record { high = kept _ _ (e .high); low = kept _ _ (e .low) }))
   carried a b (inr (inr e)) =
@@ -287,7 +287,7 @@ module _ {ps hs ls met firsts seconds : List ℕ} {a b head tail m n : ℕ} (h :
       implied-next (h .pairs) m n (rw first (l .0)) (rw second (l .1)) (rw (first, second) e)
 
   -- the pair at head is passed on where both pairs that it leads to have been met
-  advance : Passed ps hs ls met m n → Queue ps hs ls met firsts seconds a b (head + 1) tail
+  advance : PassedOn ps hs ls met m n → Queue ps hs ls met firsts seconds a b (head + 1) tail
   advance passed =
       record {
         pairs = h .pairs;
@@ -301,7 +301,7 @@ module _ {ps hs ls met firsts seconds : List ℕ} {a b head tail m n : ℕ} (h :
         right = h .right;
       }
     where
-      past : (p q : ℕ) → AtOnce p q ⊎ (Passed ps hs ls met p q ⊎ Waits firsts seconds head tail p q) → AtOnce p q ⊎ (Passed ps hs ls met p q ⊎ Waits firsts seconds (head + 1) tail p q)
+      past : (p q : ℕ) → AtOnce p q ⊎ (PassedOn ps hs ls met p q ⊎ Waits firsts seconds head tail p q) → AtOnce p q ⊎ (PassedOn ps hs ls met p q ⊎ Waits firsts seconds (head + 1) tail p q)
       past p q (inl e) = inl e
       past p q (inr (inl e)) = inr (inl e)
       past p q (inr (inr w)) = inr (⊎-elim
@@ -347,7 +347,7 @@ module _ {ps hs ls met firsts seconds : List ℕ} {a b tail : ℕ} (h : Queue ps
     ends-imply (suc (suc m)) n l k e = absurd (omega arith)
 
     -- a pair met implies where all pairs met of a smaller sum do
-    by-smaller : (m n : ℕ) → m < 256 → n < 256 → cell met m n ≡ 1 → ((p q : ℕ) → p + q < m + n → p < 256 → q < 256 → cell met p q ≡ 1 → implies (endOf ps) (recordsOf ps hs ls) p q ≡ true) → AtOnce m n ⊎ (Passed ps hs ls met m n ⊎ Waits firsts seconds tail tail m n) → implies (endOf ps) (recordsOf ps hs ls) m n ≡ true
+    by-smaller : (m n : ℕ) → m < 256 → n < 256 → cell met m n ≡ 1 → ((p q : ℕ) → p + q < m + n → p < 256 → q < 256 → cell met p q ≡ 1 → implies (endOf ps) (recordsOf ps hs ls) p q ≡ true) → AtOnce m n ⊎ (PassedOn ps hs ls met m n ⊎ Waits firsts seconds tail tail m n) → implies (endOf ps) (recordsOf ps hs ls) m n ≡ true
     by-smaller m n lm ln e smaller (inl k) = at-once _ _ m n k
     by-smaller m n lm ln e smaller (inr (inl k)) =
         by-cases (decLt (max m n) 2)

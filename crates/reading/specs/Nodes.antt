@@ -64,7 +64,7 @@ zeros (zero ∷ l) = suc (zeros l)
 zeros (suc x ∷ l) = zeros l
 
 -- Cells in which only pairs known at once are marked
-pub record Marked (met : List ℕ) : Type 0 where
+pub record OnlyKnown (met : List ℕ) : Type 0 where
   pub size : length met ≡ 65536
   pub bits : (i : ℕ) → getD met i 0 ≤ 1
   pub known : (m n : ℕ) → m < 256 → n < 256 → cell met m n ≡ 1 → AtOnce m n
@@ -78,7 +78,7 @@ pub record Room (met firsts seconds : List ℕ) (tail : ℕ) : Type 0 where
   pub left : tail + zeros met ≤ 65535
 
 -- Both pairs that m, n leads to have been met
-pub record Passed (ps hs ls met : List ℕ) (m n : ℕ) : Type 0 where
+pub record PassedOn (ps hs ls met : List ℕ) (m n : ℕ) : Type 0 where
   pub high : cell met (next ps hs m n) (next ps hs n m) ≡ 1
   pub low : cell met (next ps ls m n) (next ps ls n m) ≡ 1
 
@@ -99,7 +99,7 @@ pub record Queue (ps hs ls met firsts seconds : List ℕ) (a b head tail : ℕ) 
   pub origin : cell met 0 0 ≡ 1
   pub small : (j : ℕ) → head ≤ j → j < tail → (getD firsts j 0 < 256) × (getD seconds j 0 < 256)
   pub waiting : (j : ℕ) → head ≤ j → j < tail → cell met (getD firsts j 0) (getD seconds j 0) ≡ 1
-  pub traced : (m n : ℕ) → m < 256 → n < 256 → cell met m n ≡ 1 → AtOnce m n ⊎ (Passed ps hs ls met m n ⊎ Waits firsts seconds head tail m n)
+  pub traced : (m n : ℕ) → m < 256 → n < 256 → cell met m n ≡ 1 → AtOnce m n ⊎ (PassedOn ps hs ls met m n ⊎ Waits firsts seconds head tail m n)
   pub right : implies (endOf ps) (recordsOf ps hs ls) a b ≡ true → (m n : ℕ) → m < 256 → n < 256 → cell met m n ≡ 1 → implies (endOf ps) (recordsOf ps hs ls) m n ≡ true
 
 -- What passing on all pairs that record k leads to gives: the pair of true and false is met where the record is not

@@ -17,7 +17,7 @@ ghost use lib.ListN.{getD, set, replicate};
 ghost use Rattle.diagram.specs.Table.{recordCount};
 ghost use Rattle.diagram.specs.Checks.{monotoneFault};
 ghost use Rattle.reading.specs.Answer.{faultOf};
-ghost use Rattle.reading.specs.Nodes.{Shaped, Held, next, cell, Marked, Room, Queue, Explored};
+ghost use Rattle.reading.specs.Nodes.{Shaped, Held, next, cell, OnlyKnown, Room, Queue, Explored};
 
 // Check 18. The checks before have shown what is required.
 pub fn monotone_fault(file: &[u8]) -> Fault
@@ -46,7 +46,7 @@ pub fn monotone_fault(file: &[u8]) -> Fault
 // Marks the pairs that are known to imply at once: false implies every node, every node implies true, and each itself.
 fn mark_known(met: &mut [u8; 65536])
     requires { ⌜ now met ≡ replicate 65536 0 ⌝ }
-    ensures marked { λ _. ⌜ Marked (now (met .exit)) ⌝ }
+    ensures marked { λ _. ⌜ OnlyKnown (now (met .exit)) ⌝ }
     ensures first { λ _. ⌜ getD (now (met .exit)) 0 0 ≡ 1 ⌝ }
 {
     let mut i = 0;

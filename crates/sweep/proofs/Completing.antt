@@ -103,16 +103,16 @@ none-test f p = (
 
 module _ (s : List ℕ) (percent : ℕ) (p : List ℕ) where
   -- no completion passes
-  pub none-passes : (noneOf (passing (tableOf s) percent) (completions p) ≡ true) ↔ NonePasses s p percent
+  pub no-way-passes : (noneOf (passing (tableOf s) percent) (completions p) ≡ true) ↔ NonePasses s p percent
   unfolding passing passes
-  none-passes =
+  no-way-passes =
       let law = none-test (passing (tableOf s) percent) p in
       (λ e c h l. law .0 e c h (lt-ltb _ _ l), λ n. law .1 (λ c h t. n c h (ltb-true _ _ t)))
 
   -- no passing completion leaves line i
-  pub none-leaves : (i : ℕ) → (noneOf (λ c. passing (tableOf s) percent c && leaves c i) (completions p) ≡ true) ↔ NoneLeaves s p percent i
+  pub no-way-leaves : (i : ℕ) → (noneOf (λ c. passing (tableOf s) percent c && leaves c i) (completions p) ≡ true) ↔ NoneLeaves s p percent i
   unfolding passing passes leaves
-  none-leaves i =
+  no-way-leaves i =
       let law = none-test (λ c. passing (tableOf s) percent c && leaves c i) p in (
         λ e c h l x. law .0 e c h (and-true-both _ _ (lt-ltb _ _ l) (eq-eqb _ 2 x)),
         λ n. law .1 (λ c h t. let r = both (passing (tableOf s) percent c) t in n c h (ltb-true _ _ (r .0)) (eqb-true _ 2 (r .1))),

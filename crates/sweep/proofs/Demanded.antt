@@ -28,7 +28,7 @@ use Rattle.sweep.specs.declared.answer.FilterAnswer.{FilterAnswer}
 use Rattle.sweep.specs.declared.answer.FilterAnswer.the-variants as filter
 use Rattle.sweep.specs.Answer.{sweepOf, filterOf}
 use Rattle.sweep.specs.Demand.{Accepted, LegalMarking, Open, NonePasses, NoneLeaves, SweepHolds, FilterHolds, Demand3}
-use Rattle.sweep.proofs.Completing.{open-test, test-open, closed-test, none-passes, none-leaves}
+use Rattle.sweep.proofs.Completing.{open-test, test-open, closed-test, no-way-passes, no-way-leaves}
 
 -- ---------------------------------------------------------------------------
 -- The checks
@@ -173,12 +173,12 @@ module _ (s p : List ℕ) (percent : ℕ) where
   -- a forced line is open, and no passing way leaves it
   forced-open : (i : ℕ) → i < length p → isForced i ≡ true → Open p i × NoneLeaves s p percent i
   unfolding forced
-  forced-open i l e = let r = both (isOpen p i) e in (test-open p i l (r .0), none-leaves s percent p i .0 (r .1))
+  forced-open i l e = let r = both (isOpen p i) e in (test-open p i l (r .0), no-way-leaves s percent p i .0 (r .1))
 
   -- an open line that no passing way leaves is forced
   open-forced : (i : ℕ) → Open p i → NoneLeaves s p percent i → isForced i ≡ true
   unfolding forced
-  open-forced i o n = and-true-both _ _ (open-test p i o) (none-leaves s percent p i .1 n)
+  open-forced i o n = and-true-both _ _ (open-test p i o) (no-way-leaves s percent p i .1 n)
 
   -- an open line is taken exactly when no passing way leaves it
   takes-line : (i : ℕ) → Open p i → (getD marks i 0 ≡ 1) ↔ NoneLeaves s p percent i
@@ -240,10 +240,10 @@ module _ (s p : List ℕ) (percent : ℕ) where
       go true q =
           let is = refused-is answer plan (rw q at e) in
           let same : plan ≡ held = rw q at b in
-          rw (is, same) (refuses-holds (none-passes s percent p .0 q) held fits)
+          rw (is, same) (refuses-holds (no-way-passes s percent p .0 q) held fits)
       go false q =
           let is = forced-is answer plan (rw q at e) in
-          rw (is .0, is .1) (forces-holds (λ n. false≢true (sym q ∙ none-passes s percent p .1 n)))
+          rw (is .0, is .1) (forces-holds (λ n. false≢true (sym q ∙ no-way-passes s percent p .1 n)))
 
 -- ---------------------------------------------------------------------------
 -- Both

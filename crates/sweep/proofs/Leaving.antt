@@ -20,7 +20,7 @@ use Rattle.diagram.proofs.Every.{both, and-true-both, implied, each-assignment}
 use Rattle.diagram.proofs.Truth.{Formed}
 use Rattle.diagram.proofs.Locality.{position-less}
 use Rattle.diagram.proofs.FirstVariable.{total-nil, total-choice, total-chance, Shares}
-use Rattle.diagram.proofs.Rising.{Monotone}
+use Rattle.diagram.proofs.Rising.{Monotone, lo-hi}
 use Rattle.scoring.specs.Value.{place, marksFrom, valueFrom, value, variableAt, markAt, highShare, lowShare, highWeight, lowWeight, highArc, lowArc}
 use Rattle.scoring.proofs.Values.{value-skip, value-step}
 use Rattle.sweep.specs.Drops.{isOf, shortfall}
@@ -138,21 +138,16 @@ mark-number t u k = rw (getD-drop, add-zero) refl
 -- The lo arc brings no more than the hi arc
 
 module _ (t : Table) (formed : Formed (length (t .variables)) (t .records)) (monotone : Monotone t) where
-  -- at a choice record, an assignment that leads from lo to true also leads from hi to true
-  lo-hi : (k : ℕ) (s : List Bool) → length s ≡ length (t .variables) → isChoice (variableAt t k) ≡ true → truth (t .records) s (recordAt (t .records) k .lo) ≡ true → truth (t .records) s (recordAt (t .records) k .hi) ≡ true
-  unfolding isMonotoneAt implies variableAt
-  lo-hi k s e c = implied _ (each-assignment _ s (length (t .variables)) e (implied _ (monotone k) c))
-
-  -- so the lo child's value from the next position on is at most the hi child's
+  -- at a choice record the lo child's value from the next position on is at most the hi child's
   from-lo-hi : (u : List ℕ) (k : ℕ) → isChoice (variableAt t k) ≡ true → valueFrom t u (recordAt (t .records) k .position + 1) (recordAt (t .records) k .lo) ≤ valueFrom t u (recordAt (t .records) k .position + 1) (recordAt (t .records) k .hi)
-  unfolding valueFrom
+  unfolding valueFrom variableAt
   from-lo-hi u k c =
       let x = recordAt (t .records) k .position in
       let rest = length-drop (x + 1) (t .variables) in
       let before = length-replicate (x + 1) false in
       let less = position-less formed k in
       total-mono (drop (x + 1) (t .variables)) (marksFrom t (x + 1) u) _ _
-      (λ s e. lo-hi k (replicate (x + 1) false ++ s) (rw length-append (omega arith)) c)
+      (λ s e. lo-hi t formed monotone k (replicate (x + 1) false ++ s) (rw length-append (omega arith)) c)
 
   module _ (shares : Shares (t .variables)) where
     -- at a choice record no more comes by the lo arc than by the hi arc

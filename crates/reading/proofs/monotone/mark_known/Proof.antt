@@ -4,13 +4,13 @@ use Prim.Native.Nat.{_-_, _<_}
 use native.Mathlib.Omega.{arith}
 use mathlib.Core.Path.{_≡_, refl}
 use lib.ListN.{getD}
-use Rattle.reading.specs.Nodes.{Marked}
+use Rattle.reading.specs.Nodes.{OnlyKnown}
 use Rattle.reading.proofs.Queue.{marked-none, mark-turn}
 use Rattle.reading.proofs.monotone.mark_known.Statement.{statement}
 use Rattle.reading.proofs.monotone.mark_known.Tie as tie
 
 abbrev Inv-loop : tie.InvT-loop
-Inv-loop met₀ i₀ met i = Marked met × (0 < i → getD met 0 0 ≡ 1)
+Inv-loop met₀ i₀ met i = OnlyKnown met × (0 < i → getD met 0 0 ≡ 1)
 
 abbrev μ-loop : tie.MeasureT-loop
 μ-loop met₀ i₀ met i = 256 - i
