@@ -89,13 +89,17 @@ pub fn arc_weights(
     }
 }
 
-// A share, times b of each variable between two positions: the quotient is exact.
+// A share, times b of each variable between two positions: the quotient is exact. Most arcs lead to the next position, and
+// need no division.
 fn arc(products: &[u64; 64], share: u64, from: Position, to: Position) -> u64
     requires { ⌜ (from .0 < 63) × (to .0 < 64) × (0 < getD (now products) (to .0) 0) × (share * (getD (now products) (from .0 + 1) 0 / getD (now products) (to .0) 0) ≤ 2 ^ 56) ⌝ }
     ensures { λ r. ⌜ r ≡ share * (getD (now (products .entry)) (from .0 + 1) 0 / getD (now (products .entry)) (to .0) 0) ⌝ }
 {
     let i = from.number() + 1;
     let j = to.number();
+    if i == j {
+        return share;
+    }
     share * (products[i] / products[j])
 }
 
