@@ -60,7 +60,7 @@ pub fn in_force(
     }
 }
 
-// The mark in force at a position.
+// The mark in force at a position, which is a table's, as `decode` leaves it, and so below 64.
 pub fn mark_at(marks: &[u8; 64], at: Position) -> u8
     requires { ⌜ at .0 < 64 ⌝ }
     ensures { λ r. ⌜ r ≡ getD (now (marks .entry)) (at .0) 0 ⌝ }

@@ -69,7 +69,8 @@ fn lose(drops: &mut [u64; 64], at: Position, x: u64)
     drops[i] = drops[i] + x;
 }
 
-// The cells of the choices' positions, by choice number; the places after the last choice are 0.
+// The cells of the choices' positions, by choice number; the places after the last choice are 0. The file has passed every
+// check.
 pub fn by_choice(file: &[u8], cells: &[u64; 64]) -> [u64; 20]
     requires { ⌜ (variableCount (now file) < 64) × (choiceCount (tableOf (now file) .variables) ≤ 20) ⌝ }
     ensures { λ r. ⌜ ((f : ℕ → ℕ) → Chosen (tableOf (now (file .entry))) f (now (cells .entry)) → r ≡ over (sequence f 0 (choiceCount (tableOf (now (file .entry)) .variables))) (replicate 20 0)) ⌝ }

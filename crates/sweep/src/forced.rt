@@ -11,7 +11,8 @@ ghost use Rattle.diagram.specs.Plans as plans;
 ghost use Rattle.diagram.specs.Plans.{forcedPlan, forcedCount};
 ghost use Rattle.sweep.specs.Drops.{Swept};
 
-// Whether a score passes a percentage: 100 times the score is more than the percentage of B. Scores and B are at most 2^56.
+// Whether a score passes a percentage: 100 times the score is more than the percentage of B. Scores and B are at most 2^56 in
+// an accepted table, and the percentage has passed check 23.
 pub fn passes(percent: u32, scale: u64, score: u64) -> bool
     requires { ⌜ (percent ≤ 100) × (scale ≤ 2 ^ 56) × (score ≤ 2 ^ 56) ⌝ }
     ensures { λ r. ⌜ ((t : Table) → scale ≡ tables.scale t → r ≡ plans.passes t percent score) ⌝ }
