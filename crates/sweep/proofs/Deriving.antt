@@ -29,7 +29,7 @@ use Rattle.scoring.proofs.Values.{gap-scale, shares-drop, weights-scale, value-
 use Rattle.scoring.proofs.Over.{over-getD, over-sequence-at, over-at}
 use Rattle.scoring.proofs.Passing.{choices-before, scale-drop-le, position-within, mark-at-node, high-in-force, low-in-force, passed-values, marked-fits}
 use Rattle.sweep.specs.Down.{dot, recordSum, passDown, Budget}
-use Rattle.sweep.specs.Drops.{Passes, lossAt, opensAt, lossSum, Losing, isOf, shortfall, derivativeAt, Chosen}
+use Rattle.sweep.specs.Drops.{Weighed, lossAt, opensAt, lossSum, Losing, isOf, shortfall, derivativeAt, Chosen}
 use Rattle.sweep.proofs.Transposing.{transposed, dot-one}
 use Rattle.sweep.proofs.Leaving.{choices-later, mark-number, open-gains, left-step}
 
@@ -91,13 +91,13 @@ stored-size i x = simp (length-set, length-replicate) refl
 -- Sums of losses
 
 -- where no record is open at x nothing is lost there
-loss-none : (a : Passes) (x n : ℕ) → ((k : ℕ) → k < n → opensAt a x k ≡ false) → lossSum a x n ≡ 0
+loss-none : (a : Weighed) (x n : ℕ) → ((k : ℕ) → k < n → opensAt a x k ≡ false) → lossSum a x n ≡ 0
 unfolding lossSum
 loss-none a x zero h = refl
 loss-none a x (suc k) h = rw (h k (omega arith), loss-none a x k (λ j l. h j (omega arith))) refl
 
 -- losses that are a number of each record times the node's weight
-loss-sum : (a : Passes) (ws : List ℕ) (r : ℕ → ℕ) (x n : ℕ) → ((k : ℕ) → k < n → cond (opensAt a x k) (lossAt a k) 0 ≡ getD ws (k + 2) 0 * r k) → lossSum a x n ≡ recordSum ws r n
+loss-sum : (a : Weighed) (ws : List ℕ) (r : ℕ → ℕ) (x n : ℕ) → ((k : ℕ) → k < n → cond (opensAt a x k) (lossAt a k) 0 ≡ getD ws (k + 2) 0 * r k) → lossSum a x n ≡ recordSum ws r n
 unfolding lossSum recordSum
 loss-sum a ws r x zero h = refl
 loss-sum a ws r x (suc k) h = rw (h k (omega arith), loss-sum a ws r x k (λ j l. h j (omega arith))) refl
@@ -107,7 +107,7 @@ abbrev pub arcsOf : (hs ls hw lw : List ℕ) → Arcs
 arcsOf hs ls hw lw = record { high = hs; low = ls; highWeights = hw; lowWeights = lw }
 
 -- the arrays from which the drops are summed up
-abbrev pub lossesOf : (ps ls la ms vs ds : List ℕ) → Passes
+abbrev pub lossesOf : (ps ls la ms vs ds : List ℕ) → Weighed
 lossesOf ps ls la ms vs ds =
     record { positions = ps; low = ls; lowArcs = la; marks = ms; values = vs; weights = ds }
 

@@ -15,7 +15,7 @@ use lib.Dec.{eqb}
 use borrow.Author.Tests.{eq-eqb, ne-eqb}
 use Rattle.diagram.specs.Table.{sequence}
 use Rattle.diagram.proofs.Places.{sequence-length, sequence-at}
-use Rattle.sweep.specs.Drops.{Passes, lossAt, opensAt, lossSum, Losing}
+use Rattle.sweep.specs.Drops.{Weighed, lossAt, opensAt, lossSum, Losing}
 
 -- ---------------------------------------------------------------------------
 -- One cell, read at m for node or position d
@@ -46,7 +46,7 @@ module _ (low arcs values weights : List ℕ) where
 -- ---------------------------------------------------------------------------
 -- A sum, record after record
 
-module _ (a : Passes) (x : ℕ) where
+module _ (a : Weighed) (x : ℕ) where
   -- an open choice's record at x adds its loss
   sum-open : (k : ℕ) → opensAt a x k ≡ true → lossSum a x (k + 1) ≡ lossSum a x k + lossAt a k
   unfolding lossSum
@@ -72,17 +72,17 @@ module _ (a : Passes) (x : ℕ) where
 -- ---------------------------------------------------------------------------
 -- The sums of the first k records, by position
 
-pub record Summed (a : Passes) (k : ℕ) (drops : List ℕ) : Type 0 where
+pub record Summed (a : Weighed) (k : ℕ) (drops : List ℕ) : Type 0 where
   pub size : length drops ≡ 64
   pub each : (x : ℕ) → x < 64 → getD drops x 0 ≡ lossSum a x k
 
 -- before the first turn
-pub summed-start : (a : Passes) → Summed a 0 (replicate 64 0)
+pub summed-start : (a : Weighed) → Summed a 0 (replicate 64 0)
 unfolding lossSum
 summed-start a = record { size = refl; each = λ x l. getD-replicate 64 x 0 0 l }
 
 -- after the last
-pub summed-end : {a : Passes} {n : ℕ} {drops : List ℕ} → Summed a n drops → drops ≡ sequence (λ (x : ℕ). lossSum a x n) 0 64
+pub summed-end : {a : Weighed} {n : ℕ} {drops : List ℕ} → Summed a n drops → drops ≡ sequence (λ (x : ℕ). lossSum a x n) 0 64
 summed-end {a} {n} {drops} s =
     let size = s .size in
     let sum : ℕ → ℕ = λ x. lossSum a x n in
@@ -93,12 +93,12 @@ summed-end {a} {n} {drops} s =
 -- A turn: record k has the node m, its position is p, and the mark there is o
 
 -- what leaving its line would lose at node m
-abbrev lossOf : Passes → (m : ℕ) → ℕ
+abbrev lossOf : Weighed → (m : ℕ) → ℕ
 lossOf a m =
     getD (a .weights) m 0
     * (getD (a .values) m 0 - getD (a .lowArcs) m 0 * getD (a .values) (getD (a .low) m 0) 0)
 
-module _ {a : Passes} {n : ℕ} (h : Losing a n) {k m p o : ℕ} (l : k < n) (d : m ≡ k + 2) (e : p ≡ getD (a .positions) m 0) (g : o ≡ getD (a .marks) p 0) where
+module _ {a : Weighed} {n : ℕ} (h : Losing a n) {k m p o : ℕ} (l : k < n) (d : m ≡ k + 2) (e : p ≡ getD (a .positions) m 0) (g : o ≡ getD (a .marks) p 0) where
   -- the position has a cell
   pub position-within : p < 64
   position-within = rw e (h .within m)

@@ -15,7 +15,7 @@ use Rattle.scoring.specs.Value.{value, variableAt, lowArc}
 -- The loss of a record
 
 -- The arrays of a table under a plan, with the values of its nodes and their path weights
-pub record Passes : Type 0 where
+pub record Weighed : Type 0 where
   pub positions : List ℕ
   pub low : List ℕ
   pub lowArcs : List ℕ
@@ -24,22 +24,22 @@ pub record Passes : Type 0 where
   pub weights : List ℕ
 
 -- What leaving its line would lose at record k: the node's weight, times its value less what comes by its lo arc
-unfoldable pub lossAt : Passes → (k : ℕ) → ℕ
+unfoldable pub lossAt : Weighed → (k : ℕ) → ℕ
 lossAt a k =
     getD (a .weights) (k + 2) 0
     * (getD (a .values) (k + 2) 0 - getD (a .lowArcs) (k + 2) 0 * getD (a .values) (getD (a .low) (k + 2) 0) 0)
 
 -- Whether record k is an open choice's at position x
-unfoldable pub opensAt : Passes → (x k : ℕ) → Bool
+unfoldable pub opensAt : Weighed → (x k : ℕ) → Bool
 opensAt a x k = eqb (getD (a .positions) (k + 2) 0) x && eqb (getD (a .marks) (getD (a .positions) (k + 2) 0) 0) 0
 
 -- The losses at an open choice at position x, summed over the first n records
-unfoldable pub lossSum : Passes → (x n : ℕ) → ℕ
+unfoldable pub lossSum : Weighed → (x n : ℕ) → ℕ
 lossSum a x zero = 0
 lossSum a x (suc k) = lossSum a x k + cond (opensAt a x k) (lossAt a k) 0
 
 -- The sums fit, and no loss is below zero
-pub record Losing (a : Passes) (n : ℕ) : Type 0 where
+pub record Losing (a : Weighed) (n : ℕ) : Type 0 where
   pub few : n ≤ 254
   pub within : (k : ℕ) → getD (a .positions) k 0 < 64
   pub gains : (x k : ℕ) → k < n → opensAt a x k ≡ true → getD (a .lowArcs) (k + 2) 0 * getD (a .values) (getD (a .low) (k + 2) 0) 0 ≤ getD (a .values) (k + 2) 0
