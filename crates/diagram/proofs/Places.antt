@@ -1,13 +1,13 @@
--- Sequences by index, and the first place of a range that is at fault, as a loop over the range meets it.
+-- Sequences by index, lists of one number, and the first place of a range that is at fault, as a loop over the range meets it.
 -- Assumes nothing.
 use Prim.Native.Nat.{ℕ, zero, suc, _+_, _-_, _≤_, _<_}
-use native.Mathlib.Nat.{add-zero}
+use native.Mathlib.Nat.{add-zero, sub-zero, zero-sub, suc-sub-suc}
 use native.Mathlib.Omega.{arith}
 use mathlib.Core.Path.{_≡_, refl, ap, sym, _∙_}
 use mathlib.Core.Bool.{Bool, true, false}
 use mathlib.Core.Option.{none, some}
 use mathlib.Core.List.{List, [], _∷_, _++_}
-use lib.ListN.{length, getD, take}
+use lib.ListN.{length, getD, take, drop, replicate}
 use Rattle.diagram.specs.Table.{sequence}
 use Rattle.diagram.specs.Checks.{firstPlace}
 
@@ -45,6 +45,12 @@ module _ {A : Type 0} (f : ℕ → A) where
   take-sequence i n zero h = refl
   take-sequence i zero (suc k) h = absurd (omega arith)
   take-sequence i (suc n) (suc k) h = ap (λ (l : List A). f i ∷ l) (take-sequence (suc i) n k (omega arith))
+
+-- n times a, but for the first i
+pub drop-replicate : (i n a : ℕ) → drop i (replicate n a) ≡ replicate (n - i) a
+drop-replicate zero n a = rw sub-zero refl
+drop-replicate (suc i) zero a = rw zero-sub refl
+drop-replicate (suc i) (suc n) a = rw suc-sub-suc (drop-replicate i n a)
 
 -- ---------------------------------------------------------------------------
 -- The first place at fault, p places into n places from i on

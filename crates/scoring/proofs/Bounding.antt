@@ -90,6 +90,10 @@ root-bound {t} {p} {n} m {r} {x} {y} W some evs er ex ey =
     rw (ex, value-root) (sym (score-value t (m .formed) (m .shares) (openTaken p) (root t)))
 
 -- a bound fits
+pub top-fits : {t : Table} {p : List ℕ} {n : ℕ} {ps hs ls ha la ms : List ℕ} → Marked t p n ps hs ls ha la ms → upperBound t p ≤ 2 ^ 56
+unfolding upperBound scale
+top-fits {t} {p} m = omega (arith, score-le-scale t (m .shares) (openTaken p), m .bounded)
+
 pub bound-fits : {s : List ℕ} → Passed s → (p : List ℕ) → upperBound (tableOf s) p ≤ 2 ^ 56
 unfolding upperBound
 bound-fits {s} passed p = omega (arith, score-le-scale (tableOf s) (passed-shares passed) (openTaken p), passed-scale passed)

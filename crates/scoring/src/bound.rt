@@ -9,10 +9,10 @@ ghost use mathlib.Core.Path.{_≡_};
 ghost use mathlib.Core.List.{List};
 ghost use Prim.Native.Nat.{ℕ, _+_, _≤_};
 ghost use lib.ListN.{length, getD};
-ghost use Rattle.diagram.specs.Table.{Table, sequence, tableOf, choiceCount};
+ghost use Rattle.diagram.specs.Table.{Table, sequence, tableOf, root, choiceCount};
 ghost use Rattle.diagram.specs.Plans.{openTaken, upperBound};
 ghost use Rattle.diagram.proofs.Checked.{Passed};
-ghost use Rattle.scoring.specs.Value.{value};
+ghost use Rattle.scoring.specs.Value.{place, value, gap};
 ghost use Rattle.scoring.specs.Passes.{over, Marked};
 
 // The score with all open lines taken, of a file that has passed every check and a plan that checks 21 and 22 let through.
@@ -27,7 +27,6 @@ pub fn upper_bound(file: &[u8], plan: &[u8]) -> u64
     let mut low = [0u8; 256];
     let mut high_arcs = [0u64; 256];
     let mut low_arcs = [0u64; 256];
-    let mut values = [0u64; 256];
     let weight = lay_out(
         file,
         n,
@@ -38,7 +37,7 @@ pub fn upper_bound(file: &[u8], plan: &[u8]) -> u64
         &mut low_arcs,
     );
     let marks = marks_by_position(file, plan);
-    values_of(
+    bound_of(
         n,
         &positions,
         &high,
@@ -46,6 +45,34 @@ pub fn upper_bound(file: &[u8], plan: &[u8]) -> u64
         &high_arcs,
         &low_arcs,
         &marks,
+        weight,
+    )
+}
+
+// The score with all open lines taken, from the arrays of a table and a plan, as `lay_out` and `marks_by_position` leave
+// them; the weight handed in is the root's.
+pub fn bound_of(
+    n: usize,
+    positions: &[u8; 256],
+    high: &[u8; 256],
+    low: &[u8; 256],
+    high_arcs: &[u64; 256],
+    low_arcs: &[u64; 256],
+    marks: &[u8; 64],
+    weight: u64,
+) -> u64
+    requires { ⌜ ((t : Table) × (p : List ℕ) × Marked t p n (now positions) (now high) (now low) (now «high_arcs») (now «low_arcs») (now marks) × (weight ≡ gap t 0 (place t (root t))) × (1 ≤ n)) ⌝ }
+    ensures { λ r. ⌜ ((t : Table) (p : List ℕ) → Marked t p n (now (positions .entry)) (now (high .entry)) (now (low .entry)) (now («high_arcs» .entry)) (now («low_arcs» .entry)) (now (marks .entry)) → weight ≡ gap t 0 (place t (root t)) → r ≡ upperBound t p) ⌝ }
+{
+    let mut values = [0u64; 256];
+    values_of(
+        n,
+        positions,
+        high,
+        low,
+        high_arcs,
+        low_arcs,
+        marks,
         &mut values,
     );
     weight * value_of(&values, Node::of_record(n - 1))

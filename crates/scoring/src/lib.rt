@@ -8,6 +8,7 @@ mod pass;
 mod plans;
 
 pub use answer::ScoreAnswer;
+pub use bound::bound_of;
 pub use bound::upper_bound;
 pub use bound::value_of;
 pub use bound::values_of;

@@ -13,20 +13,21 @@ use lib.ListN.{length, getD, set, take, drop, replicate, length-set, length-repl
 use lib.Seq.{getD-drop, getD-append-add}
 use lib.Dec.{eqb}
 use borrow.Author.Tests.{eqb-true, eq-eqb}
-use Rattle.diagram.specs.Table.{chance, Table, Record, sequence, recordAt, root, isChoice, choiceCount, scaleOf, scale}
+use Rattle.diagram.specs.Table.{chance, Table, Record, sequence, recordAt, root, isChoice, choiceCount, scaleOf}
 use Rattle.diagram.specs.Score.{score}
 use Rattle.diagram.specs.Plans.{openTaken, isOpen, upperBound, derivative, derivatives}
 use Rattle.diagram.specs.Checks.{positionOf}
 use Rattle.diagram.proofs.Every.{both, and-true-both, both-ways}
 use Rattle.diagram.proofs.Places.{sequence-length, sequence-at}
 use Rattle.diagram.proofs.Locality.{position-le, position-less}
-use Rattle.diagram.proofs.FirstVariable.{score-le-scale, scale-positive}
+use Rattle.diagram.proofs.FirstVariable.{scale-positive}
 use Rattle.diagram.proofs.Rising.{Monotone}
 use Rattle.reading.proofs.Pairing.{column-at}
 use Rattle.scoring.specs.Value.{place, value, gap, variableAt, markAt, highWeight, lowWeight}
 use Rattle.scoring.specs.Passes.{over, byNode, highInForce, lowInForce, markAtNode, Arcs, passUp, Fits, Marked}
 use Rattle.scoring.proofs.Values.{gap-scale, shares-drop, weights-scale, value-le, value-false, value-true, value-step, score-value}
 use Rattle.scoring.proofs.Over.{over-getD, over-sequence-at, over-at}
+use Rattle.scoring.proofs.Bounding.{top-fits}
 use Rattle.scoring.proofs.Passing.{choices-before, scale-drop-le, position-within, mark-at-node, high-in-force, low-in-force, passed-values, marked-fits}
 use Rattle.sweep.specs.Down.{dot, recordSum, passDown, Budget}
 use Rattle.sweep.specs.Drops.{Weighed, lossAt, opensAt, lossSum, Losing, isOf, shortfall, derivativeAt, Chosen}
@@ -273,10 +274,6 @@ module _ {t : Table} {p : List ℕ} {n : ℕ} {ps hs ls ha la ms : List ℕ} (m 
   -- Bounds
 
   -- the top, the values and the drops are at most 2^56
-  pub top-fits : upperBound t p ≤ 2 ^ 56
-  unfolding upperBound scale
-  top-fits = omega (arith, score-le-scale t (m .shares) (openTaken p), m .bounded)
-
   value-fits : (u : List ℕ) (i : ℕ) → value t u i ≤ 2 ^ 56
   value-fits u i = omega (arith, value-le t (m .shares) u i, scale-drop-le (m .shares) (place t i), m .bounded)
 
@@ -286,7 +283,7 @@ module _ {t : Table} {p : List ℕ} {n : ℕ} {ps hs ls ha la ms : List ℕ} (m 
       go (isChoice (getD (t .variables) x (chance 0 1))) (isOpen p (choiceCount (take x (t .variables)))) _
     where
       go : (b d : Bool) (y : ℕ) → cond b (cond d (upperBound t p - y) 0) 0 ≤ 2 ^ 56
-      go true true y = omega (arith, top-fits)
+      go true true y = omega (arith, top-fits m)
       go true false y = omega arith
       go false d y = omega arith
 

@@ -1,14 +1,11 @@
 -- `upper_bound` meets its contract: the arrays hold the table and the plan, and the root's value times the product of b before it is the bound.
 -- Assumes nothing.
-use Prim.Native.Nat.{_*_}
-use native.Mathlib.Omega.{arith}
 use mathlib.Core.Path.{_≡_, refl, sym, _∙_}
 use lib.ListN.{length}
 use Rattle.diagram.specs.Table.{tableOf}
-use Rattle.diagram.specs.Plans.{upperBound}
 use Rattle.reading.proofs.Accepted.{records-length}
 use Rattle.scoring.specs.Passes.{Marked}
-use Rattle.scoring.proofs.Bounding.{marked, records-few, root-bound, bound-fits}
+use Rattle.scoring.proofs.Bounding.{marked, records-few}
 use borrow.Author.Needs.{needs}
 use Rattle.scoring.proofs.bound.upper_bound.Statement.{statement}
 use Rattle.scoring.proofs.bound.upper_bound.Tie as tie
@@ -36,28 +33,13 @@ lay-out-requires c κs = ((c .before .before .before .before .before .before .be
 marks-by-position-requires : tie.Need-marks-by-position-requires
 marks-by-position-requires c κs = search needs
 
-values-of-requires : tie.Need-values-of-requires
-values-of-requires c κs = ((_, _, holds (c .before .before .before .before .before .before .before)), refl)
-
-sub-of-record : tie.Need-sub-of-record
-sub-of-record c = records-few (c .before .before .before .before .before .before .before .before .before .before .before .before .before .before .before .before .before .before .before .pre .0) _ (size (c .before .before .before .before .before .before .before .before .before .before .before .before .before .before .before .before)) .0
-
-of-record-requires : tie.Need-of-record-requires
-of-record-requires c κs = records-few (c .before .before .before .before .before .before .before .before .before .before .before .before .before .before .before .before .before .before .before .pre .0) _ (size (c .before .before .before .before .before .before .before .before .before .before .before .before .before .before .before .before)) .1
-
-value-of-requires : tie.Need-value-of-requires
-value-of-requires c κs = search needs
-
-bound : (c : tie.After-value-of) → c .before .before .before .before .before .before .before .before .before .before .before .before .lay-out .result * c .value-of .result ≡ upperBound (tableOf (c .before .before .before .before .before .before .before .before .before .before .before .before .before .before .before .before .before .before .before .before .before .args .file .now)) (c .before .before .before .before .before .before .before .before .before .before .before .before .before .before .before .before .before .before .before .before .before .args .plan .now)
-bound c =
-    let m = holds (c .before .before .before .before .before .before .before .before .before .before .before) in
-    root-bound m _ (records-few (c .before .before .before .before .before .before .before .before .before .before .before .before .before .before .before .before .before .before .before .before .before .pre .0) _ (size (c .before .before .before .before .before .before .before .before .before .before .before .before .before .before .before .before .before .before)) .0) (c .before .before .before .values-of .ensures _ _ m) (c .before .of-record .ensures) (c .before .before .before .before .before .before .before .before .before .before .before .before .lay-out .ensures .1 .1 .1) (c .value-of .ensures)
-
-mul-result : tie.Need-mul-result
-mul-result c = record { fits = rw (bound c) (omega (arith, bound-fits (c .before .before .before .before .before .before .before .before .before .before .before .before .before .before .before .before .before .before .before .before .before .pre .0) (c .before .before .before .before .before .before .before .before .before .before .before .before .before .before .before .before .before .before .before .before .before .args .plan .now))) }
+bound-of-requires : tie.Need-bound-of-requires
+bound-of-requires c κs =
+    let passed = c .before .before .before .before .before .before .before .before .before .before .before .before .before .before .before .before .pre .0 in
+    (_, _, holds (c .before .before .before .before .before .before), c .before .before .before .before .before .before .before .lay-out .ensures .1 .1 .1, records-few passed _ (size (c .before .before .before .before .before .before .before .before .before .before .before .before .before)) .0)
 
 returns : tie.Need-returns
-returns c = bound c
+returns c = c .bound-of .ensures _ _ (holds (c .before .before .before .before .before .before .before)) (c .before .before .before .before .before .before .before .before .lay-out .ensures .1 .1 .1)
 
 pub upper-bound-spec : {M : Type 1} → statement M
 upper-bound-spec =
@@ -66,9 +48,5 @@ upper-bound-spec =
     record-count-requires
     lay-out-requires
     marks-by-position-requires
-    values-of-requires
-    sub-of-record
-    of-record-requires
-    value-of-requires
-    mul-result
+    bound-of-requires
     returns)

@@ -8,8 +8,8 @@ use Rattle.diagram.specs.Plans.{upperBound}
 use Rattle.scoring.specs.Value.{place, gap}
 use Rattle.scoring.specs.Passes.{Marked}
 use Rattle.scoring.proofs.Passing.{position-within}
-use Rattle.scoring.proofs.Bounding.{root-bound}
-use Rattle.sweep.proofs.Deriving.{stored-size, fits, values-are, budget, top-fits, losing, drops-are}
+use Rattle.scoring.proofs.Bounding.{root-bound, top-fits}
+use Rattle.sweep.proofs.Deriving.{stored-size, fits, values-are, budget, losing, drops-are}
 use borrow.Author.Needs.{needs}
 use Rattle.sweep.proofs.two_pass.up_and_down.Statement.{statement}
 use Rattle.sweep.proofs.two_pass.up_and_down.Tie as tie

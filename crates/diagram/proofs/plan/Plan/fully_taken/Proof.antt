@@ -1,20 +1,14 @@
 -- `Plan::fully_taken` meets its contract. The loop's invariant: the first i marks are 1, and the others are as they were. Assumes nothing.
-use Prim.Native.Nat.{ℕ, zero, suc, _-_, _≤_, _<_, min}
+use Prim.Native.Nat.{ℕ, _-_, _≤_, _<_, min}
 use mathlib.Core.Path.{_≡_, refl, _∙_}
 use mathlib.Core.List.{_++_}
 use native.Mathlib.Omega.{arith}
-use native.Mathlib.Nat.{sub-zero, zero-sub, suc-sub-suc}
 use lib.ListN.{length, drop, replicate}
+use Rattle.diagram.proofs.Places.{drop-replicate}
 use borrow.Author.Fill.{fill-more}
 use borrow.Author.Needs.{needs}
 use Rattle.diagram.proofs.plan.Plan.fully_taken.Statement.{statement}
 use Rattle.diagram.proofs.plan.Plan.fully_taken.Tie as tie
-
--- n times a, but for the first i
-drop-replicate : (i n a : ℕ) → drop i (replicate n a) ≡ replicate (n - i) a
-drop-replicate zero n a = rw sub-zero refl
-drop-replicate (suc i) zero a = rw zero-sub refl
-drop-replicate (suc i) (suc n) a = rw suc-sub-suc (drop-replicate i n a)
 
 abbrev Inv-loop : tie.InvT-loop
 Inv-loop count n marks₀ i₀ marks i = (i ≤ n) × (marks ≡ replicate i 1 ++ drop i marks₀)

@@ -1,0 +1,1 @@
+-- Laws of the visit rule and of the ranking.

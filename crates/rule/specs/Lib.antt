@@ -1,0 +1,2 @@
+-- The visit rule over any bound.
+pub mod Rule
