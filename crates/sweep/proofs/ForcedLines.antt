@@ -1,14 +1,14 @@
 -- No completion passes exactly when the top does not, and a line is forced exactly when it is open and the top less its drop does not pass: what the
 -- filter tests is what brute force over all completions finds. Then the steps of the tests and of the loop that takes the forced lines.
 -- Assumes of the table what checks 17 and 18 find, `Formed` and `Monotone`, and in the tests of a turn that the top and the drops are the plan's: `Swept`.
-use Prim.Native.Nat.{ℕ, zero, suc, _+_, _-_, _*_, _≤_, _<_}
+use Prim.Native.Nat.{ℕ, zero, suc, _+_, _-_, _*_, _/_, _≤_, _<_}
 use native.Mathlib.Nat.{zero-add}
 use native.Mathlib.Numerals.{add-one}
 use native.Mathlib.Omega.{arith}
 use mathlib.Core.Path.{_≡_, refl, ap, _∙_}
 use mathlib.Core.Bool.{Bool, true, false, cond, not, _&&_, false≢true}
 use mathlib.Core.List.{List, [], _∷_, append-nil}
-use borrow.Author.Tests.{ltb-true, lt-ltb, eq-eqb, ne-eqb}
+use borrow.Author.Tests.{ltb-true, ltb-false, lt-ltb, le-ltb, eq-eqb, ne-eqb, not-true}
 use lib.ListN.{length, getD, set}
 use lib.Seq.{drop-length}
 use lib.Dec.{eqb, ltb}
@@ -30,7 +30,7 @@ use Rattle.diagram.proofs.Rising.{
 }
 use Rattle.scoring.specs.Passes.{over}
 use Rattle.scoring.proofs.Over.{over-next}
-use Rattle.sweep.specs.Drops.{Swept}
+use Rattle.sweep.specs.Drops.{Least, Swept}
 
 -- ---------------------------------------------------------------------------
 -- Tests
@@ -39,6 +39,10 @@ use Rattle.sweep.specs.Drops.{Swept}
 denied : (a b : Bool) → (a ≡ true → b ≡ true) → not b ≡ true → not a ≡ true
 denied true b f h = rw (f refl) at h
 denied false b f h = refl
+
+not-not : (a : Bool) → not (not a) ≡ a
+not-not true = refl
+not-not false = refl
 
 -- a conjunction is denied where its first side is, whenever its second side holds
 denied-both : (a b : Bool) → (b ≡ true → not a ≡ true) → not (a && b) ≡ true
@@ -112,10 +116,16 @@ module _ (t : Table) (formed : Formed (length (t .variables)) (t .records)) (mon
 -- ---------------------------------------------------------------------------
 -- The tests of a turn
 
--- a score passes when y, 100 times it, is more than x, the percentage of the table's scale
-pub passes-is : (t : Table) (percent score : ℕ) {x y : ℕ} {r : Bool} → x ≡ percent * scale t → y ≡ 100 * score → r ≡ ltb x y → r ≡ passes t percent score
+-- the least score that passes, from x, the percentage of the table's scale
+pub least-is : (t : Table) (percent : ℕ) {x r : ℕ} → x ≡ percent * scale t → r ≡ x / 100 + 1 → Least t percent r
 unfolding passes
-passes-is t percent score e e′ q = rw (← e, ← e′) q
+least-is t percent {x} {r} e q y =
+    rw (← e)
+    (both-ways
+    _
+    _
+    (λ h. ap not (le-ltb y r (omega (arith, ltb-true x (100 * y) h, q))))
+    (λ h. lt-ltb x (100 * y) (omega (arith, ltb-false y r (not-true _ h), q))))
 
 -- a closed line is not forced
 pub closed-line : (mark : ℕ) (fails : Bool) → (mark ≡ 0 → ⊥) → false ≡ (eqb mark 0 && fails)
@@ -130,22 +140,22 @@ getD-within [] i h = absurd (omega arith)
 getD-within (m ∷ p) zero h = refl
 getD-within (m ∷ p) (suc i) h = getD-within p i (omega arith)
 
-module _ {t : Table} {p : List ℕ} {percent b bound : ℕ} {drops : List ℕ} (s : Swept t p percent b bound drops) where
+module _ {t : Table} {p : List ℕ} {percent least bound : ℕ} {drops : List ℕ} (s : Swept t p percent least bound drops) where
   -- no drop is larger than the top
   pub drop-within : (i : ℕ) → i < length p → getD drops i 0 ≤ bound
   unfolding derivative
-  drop-within i h = rw (s .derivatives i h, s .top .0) (go (isOpen p i) (upperBound t p) (score t (openTaken (set p i 2))))
+  drop-within i h = rw (s .derivatives i h, s .top) (go (isOpen p i) (upperBound t p) (score t (openTaken (set p i 2))))
     where
       go : (o : Bool) (x y : ℕ) → cond o (x - y) 0 ≤ x
       go true x y = omega arith
       go false x y = omega arith
 
   -- what a turn tests, its line's mark and its line's drop, is whether the line is forced
-  pub forced-turn : (i : ℕ) → i < length p → {mark drop : ℕ} {r : Bool} → mark ≡ getD p i 0 → drop ≡ getD drops i 0 → r ≡ (eqb mark 0 && not (passes t percent (bound - drop))) → forced t percent p i ≡ r
+  pub forced-turn : (i : ℕ) → i < length p → {mark drop : ℕ} {r : Bool} → mark ≡ getD p i 0 → drop ≡ getD drops i 0 → r ≡ (eqb mark 0 && ltb (bound - drop) least) → forced t percent p i ≡ r
   unfolding isOpen
   forced-turn i h {mark} {drop} m d r =
       forced-is t (s .formed) (s .monotone) percent p i
-      ∙ rw (r, m, d, s .derivatives i h, s .top .0, getD-within p i h) refl
+      ∙ rw (r, m, d, s .derivatives i h, s .top, getD-within p i h, s .passing, not-not) refl
 
 -- ---------------------------------------------------------------------------
 -- The loop that takes the forced lines

@@ -1,12 +1,12 @@
 -- What the arrays hold from which the drops are summed up.
 use Prim.Native.Nat.{ℕ, zero, suc, _+_, _-_, _*_, _≤_, _<_, _^_}
 use mathlib.Core.Path.{_≡_}
-use mathlib.Core.Bool.{Bool, true, cond, _&&_}
+use mathlib.Core.Bool.{Bool, true, cond, not, _&&_}
 use mathlib.Core.List.{List}
 use lib.ListN.{length, getD, take}
-use lib.Dec.{eqb}
-use Rattle.diagram.specs.Table.{Table, chance, recordAt, isChoice, choiceCount, scale}
-use Rattle.diagram.specs.Plans.{openTaken, upperBound, derivative}
+use lib.Dec.{eqb, ltb}
+use Rattle.diagram.specs.Table.{Table, chance, recordAt, isChoice, choiceCount}
+use Rattle.diagram.specs.Plans.{openTaken, upperBound, derivative, passes}
 use Rattle.diagram.proofs.Truth.{Formed}
 use Rattle.diagram.proofs.Rising.{Monotone}
 use Rattle.scoring.specs.Value.{value, variableAt, lowArc}
@@ -72,12 +72,15 @@ Chosen t f cells =
 -- ---------------------------------------------------------------------------
 -- What the filter works on
 
--- The top and the drops of an accepted table under a legal plan, its scale and a percentage
-pub record Swept (t : Table) (p : List ℕ) (percent scaleOfTable bound : ℕ) (drops : List ℕ) : Type 0 where
+-- The least score that passes a percentage: a score passes unless it is less
+abbrev pub Least : Table → (percent least : ℕ) → Type 0
+Least t percent least = (x : ℕ) → passes t percent x ≡ not (ltb x least)
+
+-- The top and the drops of an accepted table under a legal plan, and the least score that passes a percentage
+pub record Swept (t : Table) (p : List ℕ) (percent least bound : ℕ) (drops : List ℕ) : Type 0 where
   pub formed : Formed (length (t .variables)) (t .records)
   pub monotone : Monotone t
-  pub percents : percent ≤ 100
-  pub scales : (scaleOfTable ≡ scale t) × (scaleOfTable ≤ 2 ^ 56)
-  pub top : (bound ≡ upperBound t p) × (bound ≤ 2 ^ 56)
+  pub passing : Least t percent least
+  pub top : bound ≡ upperBound t p
   pub few : length p ≤ 20
   pub derivatives : (i : ℕ) → i < length p → getD drops i 0 ≡ derivative t p i

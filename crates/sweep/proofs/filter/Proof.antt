@@ -1,15 +1,16 @@
 -- `filter` meets its contract: a refused request leaves the buffer, and so does one whose top does not pass; of any other the forced lines are written and
 -- counted. Assumes nothing.
-use mathlib.Core.Path.{_≡_, sym, _∙_}
+use native.Mathlib.Omega.{arith}
+use mathlib.Core.Path.{_≡_, ap, sym, _∙_}
 use mathlib.Core.Bool.{not}
 use lib.ListN.{length}
-use borrow.Author.Tests.{not-true, not-false}
+use borrow.Author.Tests.{lt-ltb, le-ltb}
 use Rattle.diagram.specs.Table.{tableOf, scale}
 use Rattle.diagram.specs.Plans.{completions, upperBound, passes, noneOf, passing}
 use Rattle.diagram.specs.Services.{answered}
-use Rattle.reading.proofs.Accepted.{passed-formed, passed-monotone}
+use Rattle.reading.proofs.Accepted.{passed-formed, passed-scale, passed-monotone}
 use Rattle.sweep.specs.Answer.{filterOf}
-use Rattle.sweep.specs.Drops.{Swept}
+use Rattle.sweep.specs.Drops.{Least, Swept}
 use Rattle.sweep.specs.Request.{requestOutcome}
 use Rattle.sweep.proofs.ForcedLines.{none-passes}
 use Rattle.sweep.proofs.Requesting.{Proper, numbers, refused-request, accepted-request, accepted-proper, accepted-scale}
@@ -34,9 +35,13 @@ none-top c =
     let ok = request-proper c in
     none-passes _ (passed-formed (ok .passed)) (passed-monotone (ok .passed)) _ _
 
+-- the least score that passes
+least : (c : tie.After-least-passing) → Least (tableOf (c .before .before .before .before .before .before .before .before .before .args .file .now)) (c .before .before .before .before .before .before .before .before .before .args .percent) (c .least-passing .result)
+least c = c .least-passing .ensures _ (request-scale (c .before .before))
+
 -- the top and the drops, as `force` wants them
-swept : (c : tie.After-two-passes) → Swept (tableOf (c .before .before .before .before .before .before .before .before .args .file .now)) (c .before .before .before .before .before .before .before .before .args .plan .now) (c .before .before .before .before .before .before .before .before .args .percent) (c .before .before .t .given .0 .0 .scale) (c .two-passes .result .bound) (c .two-passes .result .drops)
-swept c = request-swept (request-proper (c .before)) (request-scale (c .before)) (c .two-passes .ensures .0) (c .two-passes .ensures .1)
+swept : (c : tie.After-least-passing) → Swept (tableOf (c .before .before .before .before .before .before .before .before .before .args .file .now)) (c .before .before .before .before .before .before .before .before .before .args .plan .now) (c .before .before .before .before .before .before .before .before .before .args .percent) (c .least-passing .result) (c .before .two-passes .result .bound) (c .before .two-passes .result .drops)
+swept c = request-swept (request-proper (c .before .before)) (least c) (c .before .two-passes .ensures .0) (c .before .two-passes .ensures .1)
 
 accept-requires : tie.Need-accept-requires
 accept-requires c κs = search needs
@@ -56,20 +61,23 @@ two-passes-requires c κs =
     let ok = request-proper c in
     (ok .passed, (ok .long, ok .legal))
 
-passes-requires : tie.Need-passes-requires
-passes-requires c κs = (swept c .percents, swept c .scales .1, swept c .top .1)
+least-passing-requires : tie.Need-least-passing-requires
+least-passing-requires c κs =
+    let ok = request-proper (c .before) in
+    let scales = request-scale (c .before) in
+    (ok .percents, omega (arith, scales, passed-scale (ok .passed)))
 
 returns-2 : tie.Need-returns-2
 unfolding filterOf
 returns-2 c =
-    let at = c .before .before .before in
-    filter-31 _ _ _ _ _ (request-answered at) (none-top at) (c .before .before .two-passes .ensures .0)
-    (sym (c .before .passes .ensures _ (request-scale at)) ∙ not-true _ (c .if1 .taken))
+    let at = c .before .before .before .before in
+    filter-31 _ _ _ _ _ (request-answered at) (none-top at) (c .before .before .before .two-passes .ensures .0)
+    (least (c .before .before) _ ∙ ap not (lt-ltb _ _ (c .if1 .taken)))
 
 force-requires : tie.Need-force-requires
 force-requires c κs =
-    let ok = request-proper (c .before .before .before .before .before .before) in
-    ((_, swept (c .before .before .before .before .before)), ok .sized ∙ sym (ok .long))
+    let ok = request-proper (c .before .before .before .before .before .before .before) in
+    ((_, _, swept (c .before .before .before .before .before)), ok .sized ∙ sym (ok .long))
 
 same-length : tie.Need-same-length
 same-length c = search needs
@@ -77,10 +85,10 @@ same-length c = search needs
 returns-3 : tie.Need-returns-3
 unfolding filterOf
 returns-3 c =
-    let at = c .before .before .before .before .before .before .before .before .before in
-    let forced = c .before .before .force .ensures _ (swept (c .before .before .before .before .before .before .before .before)) in
-    filter-done _ _ _ _ _ (request-answered at) (none-top at) (c .before .before .before .before .before .before .before .before .two-passes .ensures .0)
-    (sym (c .before .before .before .before .before .before .before .passes .ensures _ (request-scale at)) ∙ not-false _ (c .before .before .before .before .before .before .if1 .left))
+    let at = c .before .before .before .before .before .before .before .before .before .before in
+    let forced = c .before .before .force .ensures _ _ (swept (c .before .before .before .before .before .before .before .before)) in
+    filter-done _ _ _ _ _ (request-answered at) (none-top at) (c .before .before .before .before .before .before .before .before .before .two-passes .ensures .0)
+    (least (c .before .before .before .before .before .before .before .before) _ ∙ ap not (le-ltb _ _ (c .before .before .before .before .before .before .if1 .left)))
     (forced .0)
     (forced .1)
 
@@ -93,7 +101,7 @@ filter-spec =
     enum-known-r
     returns
     two-passes-requires
-    passes-requires
+    least-passing-requires
     returns-2
     force-requires
     same-length
