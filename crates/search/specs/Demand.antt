@@ -1,0 +1,68 @@
+-- Demand 2 of the briefing, in its words and with its quantifiers written out. It speaks of what `search` returns and writes, and of scores as document 01
+-- defines them; nothing in it is about a visit or a fold. Document 01 explains the words.
+use Prim.Native.Nat.{ℕ, _≤_, _<_}
+use mathlib.Core.Path.{_≡_}
+use mathlib.Core.Logic.{_⊎_, _↔_}
+use mathlib.Core.List.{List}
+use lib.ListN.{length, getD}
+use Rattle.diagram.specs.Table.{tableOf}
+use Rattle.diagram.specs.Score.{score}
+use Rattle.diagram.specs.Plans.{takenCount}
+use Rattle.diagram.specs.Services.{searchOutcome, searchBuffer}
+use Rattle.sweep.specs.Demand.{Accepted, LegalMarking, Completion, Passing}
+use Rattle.search.specs.declared.answer.Finding.{Finding}
+use Rattle.search.specs.declared.answer.SearchAnswer.{SearchAnswer}
+use Rattle.search.specs.declared.answer.SearchAnswer.the-variants.{Found, Refused}
+use Rattle.search.specs.Answer.{searchOf}
+
+-- "plans that finish the one given, stay within the kits and pass the percentage". A plan takes as many kits as it takes lines, whether a line was
+-- taken before, is forced or is chosen: no line is counted twice.
+pub record Candidate (file plan : List ℕ) (budget percent : ℕ) (way : List ℕ) : Type 0 where
+  pub finishes : Completion plan way
+  pub within : takenCount way ≤ budget
+  pub passes : Passing file percent way
+
+-- "at the lowest choice number where two differ, the one that takes it"
+pub record TakesFirst (way other : List ℕ) : Type 0 where
+  pub line : ℕ
+  pub line-within : line < length way
+  pub alike-before : (i : ℕ) → i < line → getD way i 0 ≡ getD other i 0
+  pub takes : getD way line 0 ≡ 1
+  pub leaves : getD other line 0 ≡ 2
+
+-- "Ranking: higher score; then fewer lines taken; then, at the lowest choice number where two differ, the one that takes it."
+abbrev pub RanksBefore : (file way other : List ℕ) → Type 0
+RanksBefore file way other =
+    (score (tableOf file) other < score (tableOf file) way)
+    ⊎ ((score (tableOf file) way ≡ score (tableOf file) other)
+    × ((takenCount way < takenCount other)
+    ⊎ ((takenCount way ≡ takenCount other) × TakesFirst way other)))
+
+-- "the first, in document 01's ranking, of all plans that finish the one given, stay within the kits and pass the percentage"
+pub record FirstCandidate (file plan : List ℕ) (budget percent : ℕ) (way : List ℕ) : Type 0 where
+  pub candidate : Candidate file plan budget percent way
+  pub first : (other : List ℕ) → Candidate file plan budget percent other → (other ≡ way) ⊎ RanksBefore file way other
+
+-- What demand 2 says of the search's answer and of the plan that it writes over what the buffer held
+pub record SearchHolds (file plan : List ℕ) (budget percent : ℕ) (held : List ℕ) (answer : SearchAnswer) (written : List ℕ) : Type 0 where
+  -- the search finds a plan or answers 32
+  pub answers : ((f : Finding) × (answer ≡ Found f)) ⊎ (answer ≡ Refused (record { number = 32; place = 0 }))
+  -- "The plan returned is the first", and the score returned is its score, "with no rounding"
+  pub finds : (f : Finding) → answer ≡ Found f → FirstCandidate file plan budget percent written × (f .score ≡ score (tableOf file) written)
+  -- "32 is returned if there is no such plan, and only then"
+  pub refuses : (answer ≡ Refused (record { number = 32; place = 0 })) ↔ ((way : List ℕ) → Candidate file plan budget percent way → ⊥)
+  -- "a turned-away request leaves the plan [...] as they were"
+  pub leaves : answer ≡ Refused (record { number = 32; place = 0 }) → written ≡ held
+
+-- Demand 2: for every accepted table, every legal marking, and kits and percent within their limits ("Once every other check passes"). The buffer handed
+-- in has one place a choice. What is assumed of answer and buffer is word for word what `search` promises.
+unfoldable pub Demand2 : Type 0
+Demand2 =
+    (file plan : List ℕ) → Accepted file → LegalMarking file plan →
+    (budget percent : ℕ) (held written : List ℕ) (answer : SearchAnswer) →
+    budget ≤ 20 →
+    percent ≤ 100 →
+    length held ≡ length plan →
+    searchOf answer written ≡ searchOutcome file plan budget percent (length held) →
+    written ≡ searchBuffer file plan budget percent held →
+    SearchHolds file plan budget percent held answer written

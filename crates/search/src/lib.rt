@@ -1,0 +1,62 @@
+// The search: the first candidate in the ranking, found by the visits of document 01's rule.
+mod answer;
+mod branch;
+mod explore;
+mod lines;
+mod rule;
+mod tally;
+mod visit;
+
+pub use answer::Finding;
+pub use answer::SearchAnswer;
+use diagram::Plan;
+use diagram::Refusal;
+use explore::explore;
+use sweep::RequestAnswer;
+use sweep::accept;
+use sweep::least_passing;
+ghost use mathlib.Core.Path.{_≡_};
+ghost use Prim.Native.Nat.{suc, _+_, _≤_, _^_};
+ghost use lib.ListN.{length};
+ghost use Rattle.diagram.specs.Plans.{openCount};
+ghost use Rattle.diagram.specs.Services.{searchOutcome, searchBuffer};
+ghost use Rattle.search.specs.Answer.{searchOf, visitsOf};
+ghost use Rattle.search.specs.State.{rows};
+
+// The score of the first candidate and the visits, with its marks written to the buffer, or the first reason for turning the
+// request away, which leaves the buffer as it was. With n open lines there are at most 2^(n+1) - 1 visits.
+pub fn search(file: &[u8], plan: &[u8], budget: u32, percent: u32, out: &mut [u8]) -> SearchAnswer
+    ensures answer { λ r. ⌜ searchOf r (now (out .exit)) ≡ searchOutcome (now (file .entry)) (now (plan .entry)) budget percent (length (now (out .entry))) ⌝ }
+    ensures buffer { λ r. ⌜ now (out .exit) ≡ searchBuffer (now (file .entry)) (now (plan .entry)) budget percent (now (out .entry)) ⌝ }
+    ensures visits { λ r. ⌜ visitsOf r + 1 ≤ 2 ^ suc (openCount (now (plan .entry))) ⌝ }
+{
+    let t = match accept(file, plan, budget, percent, out.len()) {
+        RequestAnswer::Accepted(t) => t,
+        RequestAnswer::Refused(r) => return SearchAnswer::Refused(r),
+    };
+    let found = explore(file, plan, budget, least_passing(percent, t.scale));
+    if !found.held {
+        return SearchAnswer::Refused(Refusal {
+            number: 32,
+            place: 0,
+        });
+    }
+    let best = found.best;
+    write(best, out);
+    SearchAnswer::Found(Finding {
+        score: found.score,
+        visits: found.visits,
+    })
+}
+
+// Writes a plan's marks to a buffer of one byte a choice.
+fn write(plan: Plan, out: &mut [u8])
+    requires { ⌜ (length (now out) ≡ plan .count) × (plan .count ≤ 20) ⌝ }
+    ensures { λ _. ⌜ now (out .exit) ≡ rows plan ⌝ }
+{
+    let mut i = 0;
+    while i < out.len() {
+        out[i] = plan.marks[i];
+        i += 1;
+    }
+}
