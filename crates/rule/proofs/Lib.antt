@@ -1,3 +1,4 @@
 -- Laws of the visit rule and of the ranking.
 pub mod Opening
+pub mod Ruling
 pub mod Instance
