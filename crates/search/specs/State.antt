@@ -17,7 +17,7 @@ use Rattle.scoring.specs.Value.{place, gap}
 use Rattle.scoring.specs.Passes.{marksByPosition, Marked}
 use Rattle.sweep.specs.Drops.{Least}
 use Rattle.search.specs.declared.branch.Branch.{Branch}
-use Rattle.search.specs.declared.rule.Job.{Job}
+use Rattle.search.specs.declared.job.Job.{Job}
 use Rattle.search.specs.declared.tally.Tally.{Tally}
 
 -- ---------------------------------------------------------------------------
@@ -80,11 +80,11 @@ leftOut b i x y =
     }
 
 -- What does not change during a search of table t
-pub record Ground (t : Table) (percent : ℕ) (places : List ℕ) (job : Job) : Type 0 where
+pub record Ground (t : Table) (percent : ℕ) (at : List ℕ) (job : Job) : Type 0 where
   pub some : 1 ≤ job .records
   pub weight : job .weight ≡ gap t 0 (place t (root t))
   pub least : Least t percent (job .least)
-  pub places : (i : ℕ) → i < choiceCount (t .variables) → Stand t i (getD places i 0)
+  pub places : (i : ℕ) → i < choiceCount (t .variables) → Stand t i (getD at i 0)
 
 -- What a branch holds: its marks by position are those of a plan that is its own but for open lines that it takes, its open lines are the last ones of
 -- those that were open at the start, and its cost and its bound are its plan's
@@ -129,11 +129,11 @@ kept b w =
 -- The start
 
 -- The arrays hold the file's table, and the plan, its open lines and what does not change are as the search begins with them
-pub record Laid (s p : List ℕ) (percent : ℕ) (positions high low highArcs lowArcs numbers : List ℕ) (job : Job) (open : Plan) : Type 0 where
+pub record Laid (s p : List ℕ) (percent : ℕ) (positions high low highArcs lowArcs numbers : List ℕ) (job : Job) (start : Plan) : Type 0 where
   pub some : 1 ≤ job .records
   pub weight : job .weight ≡ gap (tableOf s) 0 (place (tableOf s) (root (tableOf s)))
   pub least : Least (tableOf s) percent (job .least)
   pub marked : Marked (tableOf s) p (job .records) positions high low highArcs lowArcs (marksByPosition (tableOf s) p)
   pub lines : take (job .lines) numbers ≡ openLines p
   pub few : (job .lines ≤ 20) × (job .lines ≤ length numbers)
-  pub plan : (rows open ≡ p) × (length (open .marks) ≡ 20) × (open .count ≤ 20)
+  pub plan : (rows start ≡ p) × (length (start .marks) ≡ 20) × (start .count ≤ 20)

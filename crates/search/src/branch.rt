@@ -1,6 +1,6 @@
 // A plan that the search visits, with what is known of it, and the two ways on.
+use crate::job::Job;
 use crate::lines::position_at;
-use crate::rule::Job;
 use diagram::Choice;
 use diagram::Plan;
 use diagram::Position;

@@ -1,8 +1,8 @@
 // The search of an accepted table from a legal plan: everything that does not change is made once, then the plan is visited.
 use crate::branch::Branch;
+use crate::job::Job;
 use crate::lines::cost_of;
 use crate::lines::open_lines;
-use crate::rule::Job;
 use crate::tally::Tally;
 use crate::tally::nothing;
 use crate::visit::visit;
@@ -25,8 +25,70 @@ ghost use Rattle.search.specs.State.{tallyOf, Fitted, Laid};
 
 // Every position by its own number, to be picked from.
 const POSITIONS: [u64; 64] = [
-    0, 1, 2, 3, 4, 5, 6, 7, 8, 9, 10, 11, 12, 13, 14, 15, 16, 17, 18, 19, 20, 21, 22, 23, 24, 25, 26, 27, 28, 29, 30, 31, 32,
-    33, 34, 35, 36, 37, 38, 39, 40, 41, 42, 43, 44, 45, 46, 47, 48, 49, 50, 51, 52, 53, 54, 55, 56, 57, 58, 59, 60, 61, 62, 63,
+    0,
+    1,
+    2,
+    3,
+    4,
+    5,
+    6,
+    7,
+    8,
+    9,
+    10,
+    11,
+    12,
+    13,
+    14,
+    15,
+    16,
+    17,
+    18,
+    19,
+    20,
+    21,
+    22,
+    23,
+    24,
+    25,
+    26,
+    27,
+    28,
+    29,
+    30,
+    31,
+    32,
+    33,
+    34,
+    35,
+    36,
+    37,
+    38,
+    39,
+    40,
+    41,
+    42,
+    43,
+    44,
+    45,
+    46,
+    47,
+    48,
+    49,
+    50,
+    51,
+    52,
+    53,
+    54,
+    55,
+    56,
+    57,
+    58,
+    59,
+    60,
+    61,
+    62,
+    63,
 ];
 
 // What is held and counted after the search of a file that has passed every check, from a plan that the checks 21 and 22 let
@@ -52,8 +114,8 @@ pub fn explore(file: &[u8], plan: &[u8], budget: u32, least: u64) -> Tally
         &mut high_arcs,
         &mut low_arcs,
     );
-    let open = Plan::of_marks(plan);
-    let lines = open_lines(open);
+    let start = Plan::of_marks(plan);
+    let lines = open_lines(start);
     let job = Job {
         records: n,
         weight,
@@ -72,11 +134,11 @@ pub fn explore(file: &[u8], plan: &[u8], budget: u32, least: u64) -> Tally
         &low_arcs,
         &numbers,
         job,
-        open,
+        start,
     )
 }
 
-// The first visit, of the plan handed in. The arrays hold the file's table, and `open` and `numbers` the plan and its open
+// The first visit, of the plan handed in. The arrays hold the file's table, and `start` and `numbers` the plan and its open
 // lines.
 fn first_visit(
     file: &[u8],
@@ -88,12 +150,12 @@ fn first_visit(
     low_arcs: &[u64; 256],
     numbers: &[u8; 20],
     job: Job,
-    open: Plan,
+    start: Plan,
 ) -> Tally
     requires passed { ⌜ Passed (now file) ⌝ }
     requires plan { ⌜ (length (now plan) ≡ choiceCount (tableOf (now file) .variables)) × ((i : ℕ) → getD (now plan) i 0 ≤ 2) ⌝ }
-    requires laid { ⌜ ((percent : ℕ) × Laid (now file) (now plan) percent (now positions) (now high) (now low) (now «high_arcs») (now «low_arcs») (now numbers) job open) ⌝ }
-    ensures { λ r. ⌜ ((percent : ℕ) → Laid (now (file .entry)) (now (plan .entry)) percent (now (positions .entry)) (now (high .entry)) (now (low .entry)) (now («high_arcs» .entry)) (now («low_arcs» .entry)) (now (numbers .entry)) job open → (tallyOf r ≡ visits.visited (tableOf (now (file .entry))) (job .budget) percent (now (plan .entry))) × Fitted (tableOf (now (file .entry))) r) ⌝ }
+    requires laid { ⌜ ((percent : ℕ) × Laid (now file) (now plan) percent (now positions) (now high) (now low) (now «high_arcs») (now «low_arcs») (now numbers) job start) ⌝ }
+    ensures { λ r. ⌜ ((percent : ℕ) → Laid (now (file .entry)) (now (plan .entry)) percent (now (positions .entry)) (now (high .entry)) (now (low .entry)) (now («high_arcs» .entry)) (now («low_arcs» .entry)) (now (numbers .entry)) job start → (tallyOf r ≡ visits.visited (tableOf (now (file .entry))) (job .budget) percent (now (plan .entry))) × Fitted (tableOf (now (file .entry))) r) ⌝ }
 {
     let places = by_choice(file, &POSITIONS);
     let marks = marks_by_position(file, plan);
@@ -108,9 +170,9 @@ fn first_visit(
         job.weight,
     );
     let branch = Branch {
-        plan: open,
+        plan: start,
         marks,
-        cost: cost_of(open),
+        cost: cost_of(start),
         bound,
         settled: 0,
     };
@@ -124,6 +186,6 @@ fn first_visit(
         numbers,
         job,
         branch,
-        nothing(open),
+        nothing(start),
     )
 }

@@ -2,8 +2,8 @@
 mod answer;
 mod branch;
 mod explore;
+mod job;
 mod lines;
-mod rule;
 mod tally;
 mod visit;
 

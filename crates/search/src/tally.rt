@@ -52,7 +52,16 @@ pub fn keep(branch: Branch, tally: Tally) -> Tally
 {
     let plan = branch.plan;
     let best = tally.best;
-    if tally.held && !ranks_before(branch.bound, branch.cost, plan, tally.score, tally.cost, best) {
+    if tally.held
+        && !ranks_before(
+            branch.bound,
+            branch.cost,
+            plan,
+            tally.score,
+            tally.cost,
+            best,
+        )
+    {
         return tally;
     }
     Tally {
@@ -66,7 +75,14 @@ pub fn keep(branch: Branch, tally: Tally) -> Tally
 
 // Whether the first of two plans ranks before the second: higher score, then lower cost, then the one that takes the first
 // line where they differ.
-fn ranks_before(score: u64, cost: u32, plan: Plan, other_score: u64, other_cost: u32, other: Plan) -> bool
+fn ranks_before(
+    score: u64,
+    cost: u32,
+    plan: Plan,
+    other_score: u64,
+    other_cost: u32,
+    other: Plan,
+) -> bool
     requires { ⌜ (plan .count ≡ other .count) × (plan .count ≤ 20) ⌝ }
     ensures { λ r. ⌜ r ≡ ranksOver score cost (rows plan) «other_score» «other_cost» (rows other) ⌝ }
 {

@@ -2,10 +2,10 @@
 use crate::branch::Branch;
 use crate::branch::leave_line;
 use crate::branch::take_line;
+use crate::job::Job;
+use crate::job::goes_back;
+use crate::job::is_worthwhile;
 use crate::lines::line_at;
-use crate::rule::Job;
-use crate::rule::goes_back;
-use crate::rule::is_worthwhile;
 use crate::tally::Tally;
 use crate::tally::counted;
 use crate::tally::keep;
