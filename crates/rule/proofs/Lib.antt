@@ -1,1 +1,3 @@
 -- Laws of the visit rule and of the ranking.
+pub mod Order
+pub mod First
