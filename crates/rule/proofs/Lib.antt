@@ -2,3 +2,6 @@
 pub mod Opening
 pub mod Ruling
 pub mod Instance
+pub mod Visiting
+pub mod Order
+pub mod First
