@@ -1,1 +1,5 @@
 -- Laws of the search.
+pub mod Tallying
+pub mod OpenLines
+pub mod Branching
+pub mod Starting
