@@ -2,7 +2,7 @@
 """Writes the input of the test program `cases` and what it has to write, the latter by oracle.py. Run it in this folder."""
 import random
 
-from oracle import (bytes_of, fields, read, Refused, scored_ways, show_filter, show_read, show_score, show_sweep, word)
+from oracle import (bytes_of, fields, read, Refused, scored_ways, show_filter, show_read, show_score, show_search, show_sweep, word)
 
 A = [0x11002000, 0x20000000, 0x30400802, 0x20800000, 0x30C0300A, 0x40C00800, 0x40801000, 0x40400803, 0x40002003]
 B = [0x10801000, 0x20000000, 0x3040380A, 0x40400800, 0x40001000]
@@ -58,6 +58,18 @@ def filters(label, data, plan, percents, size=None):
         ways = None
     for percent in percents:
         case(f"{label}, {percent}", "f", text_of(data, marks_of(plan), f"{size}, {percent}"), show_filter(data, plan, percent, size, ways))
+
+
+def searches(label, data, plan, jobs, size=None):
+    data = file_of(data)
+    size = len(plan) if size is None else size
+    try:
+        ways = scored_ways(read(data), plan)
+    except (Refused, IndexError):
+        ways = None
+    for kits, percent in jobs:
+        case(f"{label}, kits {kits}, {percent}", "p", text_of(data, marks_of(plan), f"{size}, {percent}, {kits}"),
+             show_search(data, plan, kits, percent, size, ways))
 
 
 def choice(p):
@@ -364,6 +376,59 @@ def layered(v, n):
 note("Sweep and filter of made tables with many shared nodes")
 for i in range(150):
     sweep_and_filter(f"shared {i}", layered(rng.randint(3, 10), rng.randint(4, 24)))
+
+note("Search of table A, all kits and percentages, from the fully open plan, and from every other marking")
+searches("search A", A, [0, 0], [(kits, percent) for kits in range(21) for percent in range(101)])
+for i in (0, 1, 2):
+    for j in (0, 1, 2):
+        searches(f"search A {i} {j}", A, [i, j], [(kits, percent) for kits in (0, 1, 2, 20) for percent in (0, 49, 50, 59, 60, 79, 80, 100)])
+for i in (0, 1, 2):
+    searches(f"search B {i}", B, [i], [(kits, percent) for kits in (0, 1, 20) for percent in (0, 69, 70, 100)])
+
+note("Ties in score, in cost and in both")
+lines3 = [choice(0), choice(1), choice(2), chance(3, 1, 2)]
+any_line = table(lines3, [record(3, 1, 0), record(2, 2, 0), record(1, 2, 3), record(0, 2, 4)])
+two_lines = table(lines3, [record(3, 1, 0), record(2, 2, 0), record(1, 2, 3), record(1, 3, 0), record(0, 4, 5)])
+idle = table(lines3, [record(3, 1, 0)])
+last_line = table(lines3, [record(3, 1, 0), record(2, 2, 0)])
+jobs = [(kits, percent) for kits in (0, 1, 2, 3) for percent in (0, 49, 50, 100)]
+for label, t in (("any line", any_line), ("two lines of three", two_lines), ("no line matters", idle), ("the last line alone", last_line)):
+    for plan in ([0, 0, 0], [0, 0, 1], [1, 0, 0], [0, 2, 0], [2, 0, 0], [0, 1, 2], [1, 1, 1], [2, 2, 2], [1, 1, 0], [0, 1, 1]):
+        searches(f"ties, {label}, {marks_of(plan)}", t, plan, jobs)
+
+note("Search with no choices, and with twenty")
+for label, records in (("true", last), ("false", [record(0, 0, 0)])):
+    searches(f"search, no choice, {label}", table([chance(0, 3, 10)], records), [], [(kits, percent) for kits in (0, 20) for percent in (0, 29, 30, 100)])
+twenty = table([choice(i) for i in range(20)] + [chance(20, 1, 2)],
+               [record(20, 1, 0)] + [record(19 - k, k + 2, 0) for k in range(20)])
+pairs = table([choice(i) for i in range(20)],
+              [record(19 - k, 1, 0) if k % 2 == 0 else record(19 - k, k + 1, 0 if k == 1 else k) for k in range(20)])
+searches("search, twenty in a row", twenty, [0] * 20, [(20, 0), (20, 49), (20, 50), (19, 0), (0, 0)])
+searches("search, twenty, some settled", twenty, [0, 1, 0, 0, 1] * 4, [(20, 0), (20, 50), (19, 0)])
+searches("search, ten pairs", pairs, [0] * 20, [(20, 0), (20, 99), (2, 0), (1, 0)])
+searches("search, ten pairs, some settled", pairs, [0, 1, 2, 0, 0] * 4, [(20, 0), (5, 0), (4, 0), (3, 0)])
+
+note("Refusals of the search, after those of the file, with the buffer as it was")
+for label, data in bad:
+    searches(f"search, {label}", data, [0, 3], [(21, 101)], 1)
+for plan, size in (([], 2), ([0], 2), ([0, 0, 0], 2), ([0, 3, 0], 1), ([3, 0], 2), ([0, 3], 2), ([15, 9], 2), ([3, 3], 1), ([0, 0], 0), ([0, 0], 1), ([0, 0], 3),
+                   ([1, 2], 24)):
+    searches(f"search, plan {marks_of(plan)} and {size} places", A, plan, [(1, 50), (0, 80), (21, 101), (21, 100), (20, 101)], size)
+searches("search, limits", A, [0, 0], [(20, 100), (20, 101), (21, 100), (21, 101), (20, 2047), (64, 0), (255, 50), (256, 50), (65536, 256), (999999, 999999)])
+searches("search, a place too many", table([chance(0, 3, 10)], last), [], [(0, 0)], 1)
+
+
+def search_some(label, t):
+    n = sum(1 for w in t[1:1 + fields(t[0])[1]] if w >> 28 == 2)
+    plan = [rng.choice((0, 0, 0, 0, 1, 2)) for _ in range(n)]
+    searches(f"search, {label}", t, plan, [(kits, percent) for kits in (0, 1, 2, 20) for percent in (0, 40, 80)])
+
+
+note("Search of made tables")
+for i in range(100):
+    search_some(f"made {i}", made(rng.randint(1, 9), rng.randint(1, 16)))
+for i in range(100):
+    search_some(f"shared {i}", layered(rng.randint(3, 10), rng.randint(4, 24)))
 
 with open("../crates/cases/stdin", "w") as out:
     out.write("\n".join(lines) + "\n")

@@ -172,6 +172,53 @@ def filter_of(table, plan, percent, ways):
     return sum(forced), [1 if f else m for f, m in zip(forced, plan)]
 
 
+def ranks_before(way, x, other, y):
+    """Whether a way with score x ranks before another with score y: higher score, then fewer lines taken, then at the first difference the one that takes."""
+    if x != y:
+        return x > y
+    if way.count(1) != other.count(1):
+        return way.count(1) < other.count(1)
+    return any(m == 1 for m, o in [(m, o) for m, o in zip(way, other) if m != o][:1])
+
+
+def best_of(table, kits, percent, ways):
+    """The candidate that ranks before all others, by comparing with every other one, or refusal 32."""
+    candidates = [(way, x) for way, x in ways if way.count(1) <= kits and passes(table, percent, x)]
+    if not candidates:
+        raise Refused(32, 0)
+    top = max(x for way, x in candidates)
+    candidates = [(way, x) for way, x in candidates if x == top]
+    first = [(way, x) for way, x in candidates if all(way == o or ranks_before(way, x, o, y) for o, y in candidates)]
+    assert len(first) == 1
+    return first[0]
+
+
+def visits_of(table, plan, kits, percent, count=None):
+    """The visits of document 01's rule, sentence by sentence; scores are counted afresh."""
+    count = count or (lambda way: score(table, way))
+    held, visits = [], 0
+
+    def visit(plan):
+        nonlocal visits
+        visits += 1
+        top = count(full(plan, 1))
+        if plan.count(1) > kits or not passes(table, percent, top) or held and top < held[1]:
+            return
+        if 0 not in plan:
+            if not held or ranks_before(plan, top, held[0], held[1]):
+                held[:] = [plan, top]
+            return
+        d = plan.index(0)
+        visit(plan[:d] + [1] + plan[d + 1:])
+        left = plan[:d] + [2] + plan[d + 1:]
+        drop = top - count(full(left, 1))
+        if passes(table, percent, top - drop) and not (held and top - drop < held[1]):
+            visit(left)
+
+    visit(plan)
+    return visits, held
+
+
 def check_plan(table, plan, score=False):
     if len(plan) != len(table.choices):
         raise Refused(21, 0)
@@ -211,6 +258,27 @@ def show_filter(data, plan, percent, size, ways=None):
         check_buffer(t, size)
         count, held = filter_of(t, plan, percent, ways or scored_ways(t, plan))
         return f" forced {count}, plan{numbers(held)}"
+    except Refused as r:
+        return f" refused {r.number} {r.place}, plan{numbers(held)}"
+
+
+def show_search(data, plan, kits, percent, size, ways=None):
+    held = [7] * size
+    try:
+        t = read(data)
+        check_plan(t, plan)
+        if percent > 100:
+            raise Refused(23, 0)
+        if kits > 20:
+            raise Refused(24, 0)
+        check_buffer(t, size)
+        ways = ways or scored_ways(t, plan)
+        scores = {tuple(way): x for way, x in ways}
+        visits, kept = visits_of(t, plan, kits, percent, lambda way: scores[tuple(way)])
+        assert visits < 2 ** (plan.count(0) + 1)
+        held, x = best_of(t, kits, percent, ways)
+        assert kept == [held, x]
+        return f" score {x} visits {visits}, plan{numbers(held)}"
     except Refused as r:
         return f" refused {r.number} {r.place}, plan{numbers(held)}"
 

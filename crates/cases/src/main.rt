@@ -1,12 +1,13 @@
 // Runs the services on the cases of standard input, a line each, and writes what they answer.
 //
-// A line is a label, a colon, a letter for the service (r reads, s scores, w sweeps, f filters), the file's bytes in
-// hexadecimal, after a bar the plan's marks, a digit each, and after another bar the size of the lent buffer and, after a
-// comma, the percentage; spaces count for nothing. The label is written back, then the answer, and then the lent buffer, in
+// A line is a label, a colon, a letter for the service (r reads, s scores, w sweeps, f filters, p plans by the search), the
+// file's bytes in hexadecimal, after a bar the plan's marks, a digit each, and after another bar the size of the lent buffer
+// and, each after a comma, the percentage and the kits; spaces count for nothing. The label is written back, then the answer, and then the lent buffer, in
 // which every place is 7 to begin with. A line without a colon is written back as it is.
 use diagram::Refusal;
 use reading::ReadAnswer;
 use scoring::ScoreAnswer;
+use search::SearchAnswer;
 use sweep::FilterAnswer;
 use sweep::SweepAnswer;
 ghost use Prim.Native.Nat.{_≤_};
@@ -76,6 +77,7 @@ fn run(line: Line, file: &[u8], plan: &[u8]) {
         b's' => show_score(scoring::score(file, plan)),
         b'w' => run_sweep(file, plan, line.size),
         b'f' => run_filter(file, plan, line.percent, line.size),
+        b'p' => run_search(file, plan, line.kits, line.percent, line.size),
         _ => show_text(b" no such service"),
     }
     show_text(b"\n");
@@ -109,6 +111,20 @@ fn filter_into(file: &[u8], plan: &[u8], percent: u32, out: &mut [u8]) {
     show_marks(out);
 }
 
+// Runs the search on a buffer of a given size.
+fn run_search(file: &[u8], plan: &[u8], kits: u32, percent: u32, size: u32) {
+    let mut out = [7u8; 24];
+    let n = at_most_24(size);
+    search_into(file, plan, kits, percent, &mut out[..n]);
+}
+
+// Runs the search, and writes what it answers and leaves in the buffer.
+fn search_into(file: &[u8], plan: &[u8], kits: u32, percent: u32, out: &mut [u8]) {
+    show_search(search::search(file, plan, kits, percent, out));
+    show_text(b", plan");
+    show_marks(out);
+}
+
 // A size, cut to 24.
 fn at_most_24(size: u32) -> usize
     ensures { λ r. ⌜ r ≤ 24 ⌝ }
@@ -125,10 +141,12 @@ struct Line {
     half: u8,
     // How many marks the plan has.
     marks: usize,
-    // The numbers after the plan: the buffer's size and the percentage, and how many commas have come.
+    // The numbers after the plan: the buffer's size, the percentage and the kits, and whether a first and a second comma have
+    // come.
     commas: u8,
     size: u32,
     percent: u32,
+    kits: u32,
 }
 
 impl Line {
@@ -152,6 +170,7 @@ impl Line {
             commas: 0,
             size: 0,
             percent: 0,
+            kits: 0,
         }
     }
 
@@ -217,17 +236,17 @@ impl Line {
     // A digit of a number, a space, or the comma between two.
     fn number(mut self, b: u8) -> Line {
         if b == b',' {
-            self.commas = 1;
+            self.commas = if self.commas == 0 { 1 } else { 2 };
             return self;
         }
         let d = value(b);
         if 9 < d {
             return self;
         }
-        if self.commas == 0 {
-            self.size = append(self.size, d);
-        } else {
-            self.percent = append(self.percent, d);
+        match self.commas {
+            0 => self.size = append(self.size, d),
+            1 => self.percent = append(self.percent, d),
+            _ => self.kits = append(self.kits, d),
         }
         self
     }
@@ -343,6 +362,18 @@ fn show_filter(answer: FilterAnswer) {
             show_number(n as u64);
         }
         FilterAnswer::Refused(r) => show_refusal(r),
+    }
+}
+
+fn show_search(answer: SearchAnswer) {
+    match answer {
+        SearchAnswer::Found(f) => {
+            show_text(b" score");
+            show_number(f.score);
+            show_text(b" visits");
+            show_number(f.visits);
+        }
+        SearchAnswer::Refused(r) => show_refusal(r),
     }
 }
 
