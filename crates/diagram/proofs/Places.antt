@@ -101,3 +101,12 @@ module _ (fault : ℕ → Bool) where
       go false q rest (suc k) h =
           let on : i + suc k ≡ suc i + k = omega arith in
           rw on (rest k (sym (next i n q) ∙ e) (omega arith))
+
+-- a range with no place at fault
+pub no-place : (fault : ℕ → Bool) (i n : ℕ) → ((k : ℕ) → k < n → fault (i + k) ≡ false) → firstPlace fault i n ≡ none
+unfolding firstPlace
+no-place fault i zero h = refl
+no-place fault i (suc n) h =
+    let here : fault i ≡ false = rw add-zero at (h 0 (omega arith)) in
+    rw (here, firstPlace)
+    (no-place fault (suc i) n (λ k l. let on : suc i + k ≡ i + suc k = omega arith in rw on (h (suc k) (omega arith))))

@@ -1,17 +1,17 @@
 -- In a monotone table, taking a line that was left never lowers a score. So the top is the largest score of a plan's completions, and the top less a
 -- line's drop the largest of those that leave the line.
 -- Assumes of the table what checks 17 and 18 find: `Formed` and `Monotone`.
-use Prim.Native.Nat.{ℕ, zero, suc, _+_, _-_, _≤_}
+use Prim.Native.Nat.{ℕ, zero, suc, _+_, _-_, _*_, _≤_}
 use native.Mathlib.Nat.{le-refl, mul-le-mul-left, sub-add-cancel}
 use native.Mathlib.Omega.{arith}
 use mathlib.Core.Path.{_≡_, refl, ap, sym, _∙_}
 use mathlib.Core.Bool.{Bool, true, false, cond, false≢true}
 use mathlib.Core.List.{List, [], _∷_, tail}
-use borrow.Author.Tests.{eqb-true}
+use borrow.Author.Tests.{ltb-true, lt-ltb, eqb-true}
 use lib.ListN.{length, getD, set}
-use Rattle.diagram.specs.Table.{Variable, choice, chance, Table, recordAt, root, isChoice}
+use Rattle.diagram.specs.Table.{Variable, choice, chance, Table, recordAt, root, isChoice, scale}
 use Rattle.diagram.specs.Score.{isTaken, truth, total, scoreFrom, score, every, implies}
-use Rattle.diagram.specs.Plans.{completions, openTaken, isOpen, leaves, upperBound, derivative}
+use Rattle.diagram.specs.Plans.{completions, openTaken, isOpen, leaves, upperBound, derivative, passes}
 use Rattle.diagram.specs.Checks.{isMonotoneAt}
 use Rattle.diagram.proofs.Every.{both, implied, every-append, every-map, every-split, each-assignment}
 use Rattle.diagram.proofs.Truth.{Formed, truth-false, truth-true, truth-step}
@@ -200,3 +200,9 @@ module _ (t : Table) (formed : Formed (length (t .variables)) (t .records)) (mon
   pub drop-le-bound : (p : List ℕ) (i : ℕ) → isOpen p i ≡ true → derivative t p i + score t (openTaken (set p i 2)) ≡ upperBound t p
   unfolding derivative
   drop-le-bound p i o = rw o (sub-add-cancel (completion-le-bound (openTaken-leaves p i o .0)))
+
+-- a larger score passes where a smaller one does
+pub larger-passes : (t : Table) (percent : ℕ) {x y : ℕ} → x ≤ y → passes t percent x ≡ true → passes t percent y ≡ true
+unfolding passes
+larger-passes t percent {x} {y} l h =
+    lt-ltb (percent * scale t) (100 * y) (omega (arith, ltb-true (percent * scale t) (100 * x) h))

@@ -7,16 +7,16 @@ use mathlib.Core.Path.{_≡_, refl}
 use mathlib.Core.Bool.{Bool, true, false, not, _&&_}
 use mathlib.Core.List.{List, [], _∷_}
 use mathlib.Core.Option.{Option, none, some}
-use borrow.Author.Tests.{ltb-true, lt-ltb, le-ltb, ne-eqb}
+use borrow.Author.Tests.{le-ltb, ne-eqb}
 use lib.ListN.{length, set}
-use Rattle.diagram.specs.Table.{Table, scale}
+use Rattle.diagram.specs.Table.{Table}
 use Rattle.diagram.specs.Score.{score}
 use Rattle.diagram.specs.Plans.{openTaken, openCount, isOpen, takenCount, cost, upperBound, derivative, passes}
 use Rattle.diagram.specs.Ranking.{ranksBefore, better}
 use Rattle.diagram.specs.Visits as visits
 use Rattle.diagram.specs.Visits.{Tally, lowestOpen, visit}
 use Rattle.diagram.proofs.Truth.{Formed}
-use Rattle.diagram.proofs.Rising.{Monotone, Completes, complete, takes, leaves-open, keeps, completion-le-bound, drop-le-bound}
+use Rattle.diagram.proofs.Rising.{Monotone, Completes, complete, takes, leaves-open, keeps, completion-le-bound, drop-le-bound, larger-passes}
 use Rattle.rule.specs.Rule.{terms, beaten, goesBack, worthwhile, rule, Bounding}
 use Rattle.rule.proofs.Opening.{lowest-open, open-count-set}
 
@@ -38,12 +38,6 @@ unfolding openCount openTaken
 full-taken [] e = refl
 full-taken (zero ∷ p) e = absurd (omega arith)
 full-taken (suc m ∷ p) e = rw (full-taken p e)
-
--- a larger score passes where a smaller one does
-pub larger-passes : (t : Table) (percent : ℕ) {x y : ℕ} → x ≤ y → passes t percent x ≡ true → passes t percent y ≡ true
-unfolding passes
-larger-passes t percent {x} {y} l h =
-    lt-ltb (percent * scale t) (100 * y) (omega (arith, ltb-true (percent * scale t) (100 * x) h))
 
 -- a plan with a smaller score than the one held does not replace it
 larger-held : (t : Table) (b c : List ℕ) → score t c < score t b → better t (some b) c ≡ some b

@@ -16,23 +16,13 @@ use borrow.Author.Tests.{ltb-true, ltb-false, leb-true, le-ltb, le-leb, not-fals
 use Rattle.diagram.specs.Plans.{completions, openCount}
 use Rattle.diagram.specs.Ranking.{select}
 use Rattle.diagram.specs.Visits.{Tally, lowestOpen}
-use Rattle.diagram.proofs.Every.{both}
+use Rattle.diagram.proofs.Every.{both, neither, tested}
 use Rattle.diagram.proofs.Rising.{Completes, complete, takes, leaves-open, keeps}
 use Rattle.rule.specs.Rule.{Terms, Bounding, beaten, goesBack, worthwhile, rule, candidate}
 use Rattle.rule.proofs.Opening.{open-count-set, completions-split, completions-full}
 
 -- ---------------------------------------------------------------------------
 -- Tests
-
--- a test holds or does not
-tested : (b : Bool) → (b ≡ true) ⊎ (b ≡ false)
-tested true = inl refl
-tested false = inr refl
-
--- both sides of a disjunction that does not hold
-neither : (a : Bool) {b : Bool} → (a || b) ≡ false → (a ≡ false) × (b ≡ false)
-neither true h = absurd (true≢false h)
-neither false h = (refl, h)
 
 -- ---------------------------------------------------------------------------
 -- One visit

@@ -5,7 +5,7 @@ use native.Mathlib.Nat.{zero-add}
 use native.Mathlib.Decide.{decLt}
 use native.Mathlib.Omega.{arith}
 use mathlib.Core.Path.{_≡_, refl, ap}
-use mathlib.Core.Bool.{Bool, true, false, _||_, true≢false}
+use mathlib.Core.Bool.{false, _||_}
 use mathlib.Core.Logic.{by-cases}
 use mathlib.Core.Option.{none}
 use mathlib.Core.List.{List, [], _∷_}
@@ -14,15 +14,12 @@ use lib.Dec.{eqb, ltb}
 use borrow.Author.Tests.{ltb-false, eqb-false}
 use Rattle.diagram.specs.Plans.{openTaken}
 use Rattle.diagram.specs.Checks.{planMarkFault, fullPlanFault}
+use Rattle.diagram.proofs.Every.{neither}
 use Rattle.diagram.proofs.Places.{none-at}
 
 -- Marks of at most 2
 abbrev pub Legal : List ℕ → Type 0
 Legal p = (i : ℕ) → getD p i 0 ≤ 2
-
-neither : (a : Bool) {b : Bool} → (a || b) ≡ false → (a ≡ false) × (b ≡ false)
-neither true h = absurd (true≢false h)
-neither false h = (refl, h)
 
 -- an index that is past the plan has the mark 0
 within : (p : List ℕ) → ((i : ℕ) → i < length p → getD p i 0 ≤ 2) → Legal p

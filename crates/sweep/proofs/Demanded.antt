@@ -1,83 +1,57 @@
 -- Demand 3: what `sweep` and `filter` promise is what the briefing demands of them.
 -- Assumes nothing.
 use Prim.Native.Nat.{ℕ, zero, suc, _+_, _≤_, _<_}
-use native.Mathlib.Nat.{add-zero, zero-add}
+use native.Mathlib.Nat.{zero-add}
 use native.Mathlib.Omega.{arith}
 use mathlib.Core.Path.{_≡_, refl, ap, sym, _∙_}
 use mathlib.Core.Bool.{Bool, true, false, cond, _&&_, false≢true}
 use mathlib.Core.Logic.{_↔_}
 use mathlib.Core.Option.{none}
-use mathlib.Core.List.{List}
+use mathlib.Core.List.{List, []}
 use lib.ListN.{length, getD, set}
 use lib.Dec.{eqb, ltb}
 use borrow.Author.Tests.{eqb-true, eq-eqb, le-ltb}
-use Rattle.diagram.specs.Table.{tableOf, choiceCount}
+use Rattle.diagram.specs.Table.{tableOf}
 use Rattle.diagram.specs.Score.{score}
 use Rattle.diagram.specs.Plans.{completions, openTaken, isOpen, upperBound, derivative, derivatives, noneOf, passing, forced, forcedPlan, countOf, forcedCount}
-use Rattle.diagram.specs.Checks.{placeZero, firstPlace, planMarkFault, percentFault, bufferFault, sweepChecks, filterChecks}
-use Rattle.diagram.specs.Services.{refused, answered, written, Sweeping, Filtering, sweepOutcome, filtering, filterOutcome, filterBuffer}
+use Rattle.diagram.specs.Checks.{planMarkFault}
+use Rattle.diagram.specs.Services.{refused, answered, written, reading, Sweeping, Filtering, sweepOutcome, filtering, filterOutcome, filterBuffer}
 use Rattle.diagram.proofs.Every.{both, and-true-both, both-ways}
-use Rattle.diagram.proofs.Places.{sequence-length, sequence-at}
-use Rattle.diagram.proofs.Checked.{checked-passes, checked-end, read-answers, Passed, read-passed}
+use Rattle.diagram.proofs.Places.{sequence-length, sequence-at, no-place}
+use Rattle.diagram.proofs.Checked.{Passed, read-passed}
 use Rattle.diagram.proofs.Rising.{drop-le-bound}
 use Rattle.reading.proofs.Accepted.{passed-formed, passed-monotone}
-use Rattle.scoring.proofs.Requests.{length-fits}
 use Rattle.sweep.specs.declared.answer.SweepAnswer.{SweepAnswer}
 use Rattle.sweep.specs.declared.answer.SweepAnswer.the-variants as sweep
 use Rattle.sweep.specs.declared.answer.FilterAnswer.{FilterAnswer}
 use Rattle.sweep.specs.declared.answer.FilterAnswer.the-variants as filter
 use Rattle.sweep.specs.Answer.{sweepOf, filterOf}
 use Rattle.sweep.specs.Demand.{Accepted, LegalMarking, Open, NonePasses, NoneLeaves, SweepHolds, FilterHolds, Demand3}
+use Rattle.sweep.specs.Request.{requestOutcome}
+use Rattle.sweep.proofs.Requesting.{request-accepted, sweep-answered, filter-answered}
 use Rattle.sweep.proofs.Completing.{open-test, test-open, closed-test, no-way-passes, no-way-leaves}
 
 -- ---------------------------------------------------------------------------
 -- The checks
-
--- a range with no place at fault
-no-place : (fault : ℕ → Bool) (i n : ℕ) → ((k : ℕ) → k < n → fault (i + k) ≡ false) → firstPlace fault i n ≡ none
-unfolding firstPlace
-no-place fault i zero h = refl
-no-place fault i (suc n) h =
-    let here : fault i ≡ false = rw add-zero at (h 0 (omega arith)) in
-    rw (here, firstPlace)
-    (no-place fault (suc i) n (λ k l. let on : suc i + k ≡ i + suc k = omega arith in rw on (h (suc k) (omega arith))))
 
 -- marks of at most 2 pass check 22
 marks-fit : (p s : List ℕ) → ((i : ℕ) → i < length p → getD p i 0 ≤ 2) → planMarkFault p s ≡ none
 unfolding planMarkFault
 marks-fit p s h = no-place (λ i. ltb 2 (getD p i 0)) 0 (length p) (λ k l. rw zero-add (le-ltb 2 _ (h k l)))
 
--- a percentage passes check 23
-percent-fits : (percent : ℕ) (s : List ℕ) → percent ≤ 100 → percentFault percent s ≡ none
-unfolding percentFault placeZero
-percent-fits percent s h = rw (le-ltb 100 percent h) refl
-
--- a buffer of one place a choice passes check 25
-buffer-fits : (size : ℕ) (s : List ℕ) → size ≡ choiceCount (tableOf s .variables) → bufferFault size s ≡ none
-unfolding bufferFault placeZero
-buffer-fits size s e = rw (eq-eqb _ _ e) refl
-
 module _ (s p : List ℕ) (read : Accepted s) (legal : LegalMarking s p) (size : ℕ) (fits : size ≡ length p) where
+  -- no check turns such a request away
+  pub legal-request : (budget percent : ℕ) → budget ≤ 20 → percent ≤ 100 → requestOutcome s p budget percent size ≡ answered (reading s)
+  legal-request budget percent b h =
+      sym (request-accepted s p budget percent size read (legal .size) (marks-fit p [] (legal .marks)) h b (fits ∙ legal .size))
+
   -- what the sweep answers to a legal marking of an accepted table
   sweep-answers : sweepOutcome s p size ≡ answered (record { upperBound = upperBound (tableOf s) p; derivatives = derivatives (tableOf s) p })
-  unfolding sweepOutcome sweepChecks
-  sweep-answers =
-      read-answers s _ _ _ read
-      ∙ checked-passes _ _ _ s (length-fits p s (legal .size))
-      ∙ checked-passes _ _ _ s (marks-fit p s (legal .marks))
-      ∙ checked-passes _ _ _ s (buffer-fits size s (fits ∙ legal .size))
-      ∙ checked-end _ s
+  sweep-answers = sweep-answered s p size _ (legal-request 0 0 (omega arith) (omega arith))
 
   -- what the filter answers to one, 31 or the forced lines
   filter-answers : (percent : ℕ) → percent ≤ 100 → filterOutcome s p percent size ≡ filtering (tableOf s) percent p
-  unfolding filterOutcome filterChecks
-  filter-answers percent h =
-      read-answers s _ _ _ read
-      ∙ checked-passes _ _ _ s (length-fits p s (legal .size))
-      ∙ checked-passes _ _ _ s (marks-fit p s (legal .marks))
-      ∙ checked-passes _ _ _ s (percent-fits percent s h)
-      ∙ checked-passes _ _ _ s (buffer-fits size s (fits ∙ legal .size))
-      ∙ checked-end _ s
+  filter-answers percent h = filter-answered s p size percent _ (legal-request 0 percent (omega arith) h)
 
 -- ---------------------------------------------------------------------------
 -- The sweep

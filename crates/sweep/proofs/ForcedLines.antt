@@ -27,6 +27,7 @@ use Rattle.diagram.proofs.Rising.{
   completion-le-bound,
   leaving-le,
   drop-le-bound,
+  larger-passes,
 }
 use Rattle.scoring.specs.Passes.{over}
 use Rattle.scoring.proofs.Over.{over-next}
@@ -62,12 +63,6 @@ and-alike false b b′ f = refl
 
 -- ---------------------------------------------------------------------------
 -- Passing
-
--- a larger score passes where a smaller one does
-pub larger-passes : (t : Table) (percent : ℕ) {x y : ℕ} → x ≤ y → passes t percent x ≡ true → passes t percent y ≡ true
-unfolding passes
-larger-passes t percent {x} {y} l h =
-    lt-ltb (percent * scale t) (100 * y) (omega (arith, ltb-true (percent * scale t) (100 * x) h))
 
 -- a smaller score fails where a larger one does
 smaller-fails : (t : Table) (percent : ℕ) {x y : ℕ} → x ≤ y → not (passes t percent y) ≡ true → not (passes t percent x) ≡ true
