@@ -1,4 +1,5 @@
 -- Laws of the search.
+pub mod Rows
 pub mod Tallying
 pub mod OpenLines
 pub mod Branching

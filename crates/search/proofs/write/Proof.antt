@@ -1,45 +1,46 @@
+-- `write` meets its contract. The loop's invariant: the buffer has kept its length, and its first i places hold the first i marks. The measure is the
+-- number of places left. Assumes nothing.
+use Prim.Native.Nat.{_-_, _≤_}
+use native.Mathlib.Omega.{arith}
+use mathlib.Core.Path.{_≡_, refl, _∙_}
+use lib.ListN.{length, take, length-set}
+use borrow.Author.Needs.{needs}
+use Rattle.search.proofs.Rows.{written-more, written-all}
 use Rattle.search.proofs.write.Statement.{statement}
 use Rattle.search.proofs.write.Tie as tie
-use Rattle.search.proofs.write.Reads as reads
-use Rattle.search.proofs.write.Lts as lts
 
 abbrev Inv-loop : tie.InvT-loop
-Inv-loop out₀ plan i₀ out i = ?
+Inv-loop out₀ plan i₀ out i = (length out ≡ length out₀) × (i ≤ length out₀) × (take i out ≡ take i (plan .marks))
 
 abbrev μ-loop : tie.MeasureT-loop
-μ-loop out₀ plan i₀ out i = ?
+μ-loop out₀ plan i₀ out i = length out₀ - i
 
--- src/lib.rt:58:5
 loop-holds : tie.Need-loop-holds Inv-loop μ-loop
-loop-holds c = ?
+loop-holds c = (refl, omega arith, refl)
 
--- src/lib.rt:59:18
 element-copy-out-out : tie.Need-element-copy-out-out Inv-loop μ-loop
-element-copy-out-out c = ?
+element-copy-out-out c = omega arith
 
--- src/lib.rt:59:9
 slice-write-out : tie.Need-slice-write-out Inv-loop μ-loop
-slice-write-out c = ?
+slice-write-out c = omega arith
 
--- src/lib.rt:60:9
 add-i : tie.Need-add-i Inv-loop μ-loop
-add-i c = ?
+add-i c = omega arith
 
--- src/lib.rt:58:5
 loop-less : tie.Need-loop-less Inv-loop μ-loop
-loop-less c = ?
+loop-less c = omega arith
 
--- src/lib.rt:58:5
 loop-again : tie.Need-loop-again Inv-loop μ-loop
-loop-again c = ?
+loop-again c =
+    let at = c .before .before in
+    let sized : length (at .before .args .t1 .marks) ≡ 20 = search needs in
+    (simp length-set (at .loop .inv .0), omega arith, written-more _ (at .loop .out) (at .loop .i) (at .loop .inv .2) refl (omega arith) (omega arith))
 
--- src/lib.rt:53:1
 same-length : tie.Need-same-length Inv-loop μ-loop
-same-length c = ?
+same-length c = c .before .loop .inv .0
 
--- src/lib.rt:53:1
 returns : tie.Need-returns Inv-loop μ-loop
-returns c = ?
+returns c = written-all _ _ (c .before .loop .i) (c .before .loop .inv .2) _ (c .before .loop .inv .0 ∙ c .before .before .pre .0) (omega arith) (omega arith)
 
 pub write-spec : {M : Type 1} → statement M
 write-spec =

@@ -1,49 +1,64 @@
+-- `open_lines` meets its contract. The loop's invariant: the array has kept its length, and its first `count` places hold the open ones of the first i
+-- lines, with those from i on still to find. The measure is the number of lines left. Assumes nothing.
+use Prim.Native.Nat.{_+_, _-_, _≤_}
+use native.Mathlib.Omega.{arith}
+use mathlib.Core.Path.{_≡_, refl}
+use mathlib.Core.Logic.{⊎-elim}
+use mathlib.Core.List.{_++_}
+use lib.ListN.{length, take, drop, length-set}
+use borrow.Author.Needs.{needs}
+use Rattle.search.specs.State.{rows, openFrom, openLines}
+use Rattle.search.proofs.Rows.{found-open, found-marked, found-all}
 use Rattle.search.proofs.lines.open_lines.Statement.{statement}
 use Rattle.search.proofs.lines.open_lines.Tie as tie
-use Rattle.search.proofs.lines.open_lines.Reads as reads
-use Rattle.search.proofs.lines.open_lines.Lts as lts
 
 abbrev Inv-loop : tie.InvT-loop
-Inv-loop plan n numbers₀ count₀ i₀ numbers count i = ?
+Inv-loop plan n numbers₀ count₀ i₀ numbers count i = (count ≤ i) × (i ≤ n) × (length numbers ≡ 20) × (take count numbers ++ openFrom i (drop i (rows plan)) ≡ openLines (rows plan))
 
 abbrev μ-loop : tie.MeasureT-loop
-μ-loop plan n numbers₀ count₀ i₀ numbers count i = ?
+μ-loop plan n numbers₀ count₀ i₀ numbers count i = n - i
 
--- src/lines.rt:26:5
+-- every line in use has a mark
+enough : (c : tie.Start Inv-loop μ-loop) → c .args .t1 .count ≤ length (c .args .t1 .marks)
+enough c =
+    let sized : length (c .args .t1 .marks) ≡ 20 = search needs in
+    omega arith
+
 loop-holds : tie.Need-loop-holds Inv-loop μ-loop
-loop-holds c = ?
+unfolding openLines
+loop-holds c = (omega arith, omega arith, refl, refl)
 
--- src/lines.rt:27:12
 element-copy-out-if1 : tie.Need-element-copy-out-if1 Inv-loop μ-loop
-element-copy-out-if1 c = ?
+element-copy-out-if1 c = omega arith
 
--- src/lines.rt:28:30
 cast-numbers : tie.Need-cast-numbers Inv-loop μ-loop
-cast-numbers c = ?
+cast-numbers c = omega arith
 
--- src/lines.rt:28:13
 array-write-numbers : tie.Need-array-write-numbers Inv-loop μ-loop
-array-write-numbers c = ?
+array-write-numbers c = omega arith
 
--- src/lines.rt:29:13
 add-count : tie.Need-add-count Inv-loop μ-loop
-add-count c = ?
+add-count c = omega arith
 
--- src/lines.rt:31:9
 add-i : tie.Need-add-i Inv-loop μ-loop
-add-i c = ?
+add-i c = omega arith
 
--- src/lines.rt:26:5
 loop-less : tie.Need-loop-less Inv-loop μ-loop
-loop-less c = ?
+loop-less c = omega arith
 
--- src/lines.rt:26:5
 loop-again : tie.Need-loop-again Inv-loop μ-loop
-loop-again c = ?
+loop-again c =
+    let many = enough (c .before .before .before .before) in
+    let at = c .before .before .before .loop in
+    ⊎-elim
+    (λ w. rw (w .1, w .2) (omega arith, omega arith, simp length-set (at .inv .2), found-open _ _ _ many (at .numbers) (at .count) (at .inv .3) refl (omega arith) (omega arith) (w .0 .taken)))
+    (λ w. rw (w .1, w .2) (omega arith, omega arith, at .inv .2, found-marked _ _ _ many (at .numbers) (at .count) (at .inv .3) (omega arith) (w .0 .left)))
+    (c .if1 .came)
 
--- src/lines.rt:18:1
 returns : tie.Need-returns Inv-loop μ-loop
-returns c = ?
+returns c =
+    let at = c .before .loop in
+    (omega arith, found-all _ _ (at .i) (enough (c .before .before)) (at .numbers) (at .count) (at .inv .3) (omega arith))
 
 pub open-lines-spec : {M : Type 1} → statement M
 open-lines-spec =

@@ -1,34 +1,36 @@
+-- `position_at` meets its contract. Assumes nothing.
+use Prim.Native.Nat.{ℕ, _<_}
+use native.Mathlib.Omega.{arith}
+use mathlib.Core.Path.{_≡_, ap, _∙_}
+use mathlib.Core.List.{List}
+use lib.ListN.{getD}
+use mir.Syntax.{w8}
+use mir.Val.{Fits}
 use borrow.Author.Needs.{needs}
 use Rattle.search.proofs.lines.position_at.Statement.{statement}
 use Rattle.search.proofs.lines.position_at.Tie as tie
-use Rattle.search.proofs.lines.position_at.Reads as reads
-use Rattle.search.proofs.lines.position_at.Lts as lts
-use Rattle.diagram.proofs.numbering.Choice.number.Reads as number-reads
-use Rattle.diagram.proofs.numbering.Position.new.Reads as new-reads
 
--- src/lines.rt:66:9
+-- a position fits in a byte
+held : (places : List ℕ) {i j : ℕ} → i ≡ j → getD places j 0 < 64 → Fits w8 (getD places i 0)
+held places e l = rw e (omega arith)
+
 number-requires : tie.Need-number-requires
 number-requires c κs = search needs
 
--- src/lines.rt:67:19
 mul-new : tie.Need-mul-new
 mul-new c = search needs
 
--- src/lines.rt:67:19
 element-copy-out-new : tie.Need-element-copy-out-new
 element-copy-out-new c = search needs
 
--- src/lines.rt:67:19
 cast-new : tie.Need-cast-new
-cast-new c = ?
+cast-new c = held (c .before .before .args .places .now) (c .before .number .ensures) (c .before .before .pre .1)
 
--- src/lines.rt:67:5
 new-requires : tie.Need-new-requires
 new-requires c κs = search needs
 
--- src/lines.rt:62:1
 returns : tie.Need-returns
-returns c = ?
+returns c = c .new .ensures ∙ ap (λ (i : ℕ). getD (c .before .before .before .args .places .now) i 0) (c .before .before .number .ensures)
 
 pub position-at-spec : {M : Type 1} → statement M
 position-at-spec =

@@ -1,0 +1,102 @@
+-- A loop's step over the lines of a plan, from line i to the next: the open lines, what the taken ones cost, and the marks written to a buffer. Of the
+-- marks, the first n are in use. Assumes that there are so many.
+use Prim.Native.Nat.{ℕ, zero, suc, _+_, _≤_, _<_}
+use native.Mathlib.Numerals.{add-one}
+use native.Mathlib.Omega.{arith}
+use mathlib.Core.Path.{_≡_, refl, sym, _∙_}
+use mathlib.Core.List.{List, [], _∷_, _++_, append-nil}
+use lib.ListN.{length, getD, set, take, drop, drop-of-length-le}
+use lib.Seq.{length-take-le, getD-take, drop-cons, append-snoc, take-suc, take-suc-set, take-all}
+use Rattle.diagram.specs.Plans.{takenCount, cost}
+use Rattle.search.specs.State.{openFrom, openLines}
+
+-- ---------------------------------------------------------------------------
+-- The first line
+
+-- an open line comes first of the open ones
+open-here : (i m : ℕ) (p : List ℕ) → m ≡ 0 → openFrom i (m ∷ p) ≡ i ∷ openFrom (i + 1) p
+unfolding openFrom
+open-here i m p e = rw (e, add-one) refl
+
+-- a marked line is none of them
+open-past : (i m : ℕ) (p : List ℕ) → (m ≡ 0 → ⊥) → openFrom i (m ∷ p) ≡ openFrom (i + 1) p
+unfolding openFrom
+open-past i zero p f = absurd (f refl)
+open-past i (suc m) p f = rw add-one refl
+
+-- a taken line costs a kit
+cost-here : (m : ℕ) (p : List ℕ) → m ≡ 1 → cost (m ∷ p) ≡ 1 + cost p
+unfolding cost takenCount
+cost-here m p e = rw e (omega arith)
+
+-- another line costs none
+cost-past : (m : ℕ) (p : List ℕ) → (m ≡ 1 → ⊥) → cost (m ∷ p) ≡ cost p
+unfolding cost takenCount
+cost-past zero p f = refl
+cost-past (suc zero) p f = absurd (f refl)
+cost-past (suc (suc m)) p f = refl
+
+-- ---------------------------------------------------------------------------
+-- Line i, where the lines before it are done
+
+module _ (marks : List ℕ) (n i : ℕ) (long : n ≤ length marks) where
+  -- the lines from i on are line i and those after it
+  pub row-cons : i < n → drop i (take n marks) ≡ getD marks i 0 ∷ drop (i + 1) (take n marks)
+  row-cons l =
+      let sized = length-take-le n marks long in
+      rw (add-one, drop-cons (take n marks) i 0 (omega (arith, sized)), getD-take n marks i 0 l) refl
+
+  -- past the last line there is none
+  pub row-end : n ≤ i → drop i (take n marks) ≡ []
+  row-end l =
+      let sized = length-take-le n marks long in
+      drop-of-length-le (take n marks) {i = i} (omega (arith, sized))
+
+  -- ---------------------------------------------------------------------------
+  -- The open lines, of which `count` are found before line i
+
+  module _ (numbers : List ℕ) (count : ℕ) (found : take count numbers ++ openFrom i (drop i (take n marks)) ≡ openLines (take n marks)) where
+    -- an open line is one more
+    pub found-open : {x : ℕ} → x ≡ i → i < n → count < length numbers → getD marks i 0 ≡ 0 → take (count + 1) (set numbers count x) ++ openFrom (i + 1) (drop (i + 1) (take n marks)) ≡ openLines (take n marks)
+    found-open e l h o =
+        rw (e, add-one count, take-suc-set numbers count i h, append-snoc) (rw (row-cons l, open-here i _ _ o) at found)
+
+    -- a marked line is passed
+    pub found-marked : i < n → (getD marks i 0 ≡ 0 → ⊥) → take count numbers ++ openFrom (i + 1) (drop (i + 1) (take n marks)) ≡ openLines (take n marks)
+    found-marked l f = rw (row-cons l, open-past i _ _ f) at found
+
+    -- at the end all are found
+    pub found-all : n ≤ i → take count numbers ≡ openLines (take n marks)
+    unfolding openFrom
+    found-all l = rw (row-end l, append-nil) at found
+
+  -- ---------------------------------------------------------------------------
+  -- The cost, with t kits for the lines before line i
+
+  module _ (t : ℕ) (counted : cost (take n marks) ≡ t + cost (drop i (take n marks))) where
+    -- a taken line costs a kit more
+    pub counted-taken : i < n → getD marks i 0 ≡ 1 → cost (take n marks) ≡ t + 1 + cost (drop (i + 1) (take n marks))
+    counted-taken l e = omega (arith, rw (row-cons l, cost-here _ _ e) at counted)
+
+    -- another line costs none
+    pub counted-other : i < n → (getD marks i 0 ≡ 1 → ⊥) → cost (take n marks) ≡ t + cost (drop (i + 1) (take n marks))
+    counted-other l f = rw (row-cons l, cost-past _ _ f) at counted
+
+    -- at the end all are counted
+    pub counted-all : n ≤ i → t ≡ cost (take n marks)
+    unfolding cost takenCount
+    counted-all l = omega (arith, rw (row-end l) at counted)
+
+-- ---------------------------------------------------------------------------
+-- The marks written to a buffer, as far as place i
+
+module _ (marks out : List ℕ) (i : ℕ) (written : take i out ≡ take i marks) where
+  -- one mark more, where the mark written is the one at the same place
+  pub written-more : {x : ℕ} → x ≡ getD marks i 0 → i < length marks → i < length out → take (i + 1) (set out i x) ≡ take (i + 1) marks
+  written-more e h l = rw (add-one, take-suc-set out i _ l, take-suc marks i 0 h, written, e) refl
+
+  -- all marks, at the end
+  pub written-all : (n : ℕ) → length out ≡ n → n ≤ i → i ≤ n → out ≡ take n marks
+  written-all n e l h =
+      let same : i ≡ n = omega arith in
+      sym (take-all i out (omega arith)) ∙ written ∙ rw same refl
