@@ -1,13 +1,12 @@
--- What the first visit starts from.
--- Assumes of the file that no check finds it at fault (`Passed`), and that the arrays hold its table and the plan (`Laid`).
+-- What a search lays out once is what its first visit starts from, and what the visit rule comes to from there is document 01's search.
+-- Assumes of the file that no check finds it at fault (`Passed`), and for the first visit that the arrays hold its table and the plan (`Laid`).
 use Prim.Native.Nat.{ℕ, zero, suc, _+_, _-_, _≤_, _<_, _^_, min}
 use native.Mathlib.Nat.{zero-add}
 use native.Mathlib.Omega.{arith}
 use mathlib.Core.Path.{_≡_, refl, ap, sym, _∙_}
 use mathlib.Core.Bool.{true, false, false≢true}
-use mathlib.Core.Option.{none}
 use mathlib.Core.List.{List, [], _∷_, _++_}
-use lib.ListN.{length, getD, take, replicate, length-append, length-take, length-replicate}
+use lib.ListN.{length, getD, take, replicate, length-append, length-replicate}
 use lib.Pow.{pow-mono}
 use lib.Seq.{take-length, take-append-seam, length-take-le}
 use Rattle.diagram.specs.Table.{Variable, choice, chance, Table, sequence, tableOf, root, isChoice, choiceCount}
@@ -25,7 +24,6 @@ use Rattle.scoring.proofs.FullPlans.{Legal}
 use Rattle.scoring.proofs.Over.{over-sequence-at}
 use Rattle.scoring.proofs.Bounding.{marked, records-few}
 use Rattle.sweep.specs.Drops.{Chosen, Least}
-use Rattle.search.specs.declared.branch.Branch.{Branch}
 use Rattle.search.specs.declared.job.Job.{Job}
 use Rattle.search.specs.declared.tally.Tally.{Tally}
 use Rattle.search.specs.State.{rows, openLines, choicePosition, Stand, Ground, Stands, heldOf, tallyOf, Fitted, Laid}
@@ -33,6 +31,7 @@ use Rattle.search.specs.State.{rows, openLines, choicePosition, Stand, G
 -- ---------------------------------------------------------------------------
 -- The positions of the choices
 
+-- the position of a choice is within the variables, a choice's, and that of its number
 choice-at : (vs : List Variable) (i : ℕ) → i < choiceCount vs → (choicePosition vs i < length vs) × (isChoice (getD vs (choicePosition vs i) (chance 0 1)) ≡ true) × (choiceCount (take (choicePosition vs i) vs) ≡ i)
 unfolding choicePosition choiceCount isChoice
 choice-at [] i l = absurd (omega arith)
@@ -50,7 +49,7 @@ choice-stands t i l =
     let at = choice-at (t .variables) i l in
     record { within = at .0; chosen = at .1; number = at .2 }
 
--- a choice's own position
+-- a choice's position is that of its number
 position-own : (vs : List Variable) (x : ℕ) → x < length vs → isChoice (getD vs x (chance 0 1)) ≡ true → choicePosition vs (choiceCount (take x vs)) ≡ x
 unfolding choicePosition choiceCount isChoice
 position-own [] x h e = absurd (omega arith)
@@ -74,8 +73,7 @@ own-numbers t few = own-chosen t (sequence (λ x. x) 0 64) few (λ x l. sequence
 handed-in : (p : List ℕ) (start : Plan) → length p ≤ 20 → start .marks ≡ take (min (length p) 20) p ++ replicate (20 - min (length p) 20) 0 → start .count ≡ min (length p) 20 → (rows start ≡ p) × (length (start .marks) ≡ 20) × (start .count ≤ 20)
 handed-in p start few marks count =
     let all : min (length p) 20 ≡ length p = omega arith in
-    let own : take (length p) p ≡ p = take-length p in
-    (
+    let own : take (length p) p ≡ p = take-length p in (
       rw (marks, count, all, own) (take-append-seam p (replicate (20 - length p) 0)),
       rw (marks, all, own, length-append, length-replicate) (omega arith),
       omega arith,
@@ -99,6 +97,7 @@ module _ {s p : List ℕ} {percent n : ℕ} {ps hs ls ha la numbers : List ℕ} 
 -- ---------------------------------------------------------------------------
 -- What the first visit is handed, and what it answers
 
+-- at most all lines are open
 open-few : (p : List ℕ) → openCount p ≤ length p
 unfolding openCount
 open-few [] = omega arith

@@ -1,10 +1,8 @@
 -- `first_visit` meets its contract: the arrays, the plan's branch and an empty tally are what a visit asks for, and what the visit answers is document
 -- 01's search. Assumes nothing.
 use native.Mathlib.Omega.{arith}
-use mathlib.Core.Path.{_≡_, refl}
-use mathlib.Core.List.{List}
-use Prim.Native.Nat.{ℕ}
-use lib.ListN.{length, replicate}
+use mathlib.Core.Path.{_≡_}
+use lib.ListN.{replicate}
 use Rattle.diagram.specs.Table.{sequence, tableOf, choiceCount}
 use Rattle.reading.proofs.Counting.{variables-length}
 use Rattle.reading.proofs.Accepted.{passed-variables, passed-choices}
@@ -14,14 +12,6 @@ use Rattle.search.proofs.Starting.{own-numbers, first-ground, first-mar
 use borrow.Author.Needs.{needs}
 use Rattle.search.proofs.explore.first_visit.Statement.{statement}
 use Rattle.search.proofs.explore.first_visit.Tie as tie
-use Rattle.search.proofs.explore.first_visit.Reads as reads
-use Rattle.search.proofs.explore.first_visit.Lts as lts
-use Rattle.scoring.proofs.bound_of.Reads as bound-of-reads
-use Rattle.scoring.proofs.marks_by_position.Reads as marks-by-position-reads
-use Rattle.search.proofs.lines.cost_of.Reads as cost-of-reads
-use Rattle.search.proofs.tally.nothing.Reads as nothing-reads
-use Rattle.search.proofs.visit.visit.Reads as visit-reads
-use Rattle.sweep.proofs.by_choice.Reads as by-choice-reads
 
 by-choice-requires : tie.Need-by-choice-requires
 by-choice-requires c κs =
@@ -59,8 +49,7 @@ visit-requires c κs =
     let passed = start .pre .0 in
     let laid = start .pre .1 .1 .1 in
     let marks = c .before .before .before .before .before .marks-by-position .ensures in
-    let bound = c .before .before .before .bound-of .ensures _ _ (first-marked passed laid marks) (laid .weight) in
-    (
+    let bound = c .before .before .before .bound-of .ensures _ _ (first-marked passed laid marks) (laid .weight) in (
       (
         _,
         _,
