@@ -1,5 +1,6 @@
 -- Laws of the search.
 pub mod Tallying
 pub mod OpenLines
+pub mod Positions
 pub mod Branching
 pub mod Starting
