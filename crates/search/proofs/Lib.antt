@@ -2,5 +2,6 @@
 pub mod Rows
 pub mod Tallying
 pub mod OpenLines
+pub mod Positions
 pub mod Branching
 pub mod Starting
