@@ -19,7 +19,8 @@ use Rattle.scoring.specs.Passes.{Marked}
 use Rattle.search.specs.declared.branch.Branch.{Branch}
 use Rattle.search.specs.declared.job.Job.{Job}
 use Rattle.search.specs.State.{rows, openLines, taken, leftOut, Ground, Stands}
-use Rattle.search.proofs.OpenLines.{lines-none, lines-lowest, lines-within, lines-open, lines-count, lines-marked, cost-taken, cost-left, taken-same, left-alike}
+use Rattle.sweep.proofs.Leaving.{openTaken-set}
+use Rattle.search.proofs.OpenLines.{lines-none, lines-lowest, lines-within, lines-open, lines-count, lines-marked, cost-taken, cost-left, taken-same}
 use Rattle.search.proofs.Positions.{marks-set}
 
 -- a plan takes no more lines than it has
@@ -171,7 +172,7 @@ module _ {t : Table} {percent : ℕ} {at : List ℕ} {job : Job} {ps hs ls ha la
     -- its bound is that of the branch's plan with the line left
     pub left-bound : upperBound t leftPlan ≡ upperBound t (set (rows (b .plan)) d 2)
     unfolding upperBound
-    left-bound = rw (left-alike (stands .marked .0) d, left-alike (rows (b .plan)) d, stands .marked .1)
+    left-bound = rw (openTaken-set (stands .marked .0) d, openTaken-set (rows (b .plan)) d, stands .marked .1)
 
     module _ (y : ℕ) where
       -- the plan has the line left
@@ -189,7 +190,7 @@ module _ {t : Table} {percent : ℕ} {at : List ℕ} {job : Job} {ps hs ls ha la
       left-stands e =
           let o = lines-open _ d rest lines-next in
           record {
-            marked = (leftPlan, rw (left-rows, left-alike (stands .marked .0) d, left-alike (rows (b .plan)) d, stands .marked .1), left-marked);
+            marked = (leftPlan, rw (left-rows, openTaken-set (stands .marked .0) d, openTaken-set (rows (b .plan)) d, stands .marked .1), left-marked);
             long = (length-set (b .plan .marks) d 2 ∙ stands .long .0, stands .long .1, stands .long .2);
             lines = rw left-rows (marked-lines 1);
             few = (omega (arith, settled-few .0), stands .few .1, stands .few .2);

@@ -89,12 +89,3 @@ taken-same (zero ∷ p) zero o = refl
 taken-same (suc m ∷ p) zero o = absurd (omega (arith, eqb-true (suc m) 0 o))
 taken-same (zero ∷ p) (suc d) o = ap (λ (q : List ℕ). 1 ∷ q) (taken-same p d o)
 taken-same (suc m ∷ p) (suc d) o = ap (λ (q : List ℕ). suc m ∷ q) (taken-same p d o)
-
--- to leave a line and take the open ones, or the other way round
-pub left-alike : (p : List ℕ) (d : ℕ) → openTaken (set p d 2) ≡ set (openTaken p) d 2
-unfolding openTaken
-left-alike [] d = refl
-left-alike (zero ∷ p) zero = refl
-left-alike (suc m ∷ p) zero = refl
-left-alike (zero ∷ p) (suc d) = ap (λ (q : List ℕ). 1 ∷ q) (left-alike p d)
-left-alike (suc m ∷ p) (suc d) = ap (λ (q : List ℕ). suc m ∷ q) (left-alike p d)

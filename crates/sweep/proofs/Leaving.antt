@@ -47,7 +47,7 @@ total-mono (chance a b ∷ vs) p f g h =
 -- Plans
 
 -- to leave a line and take the open ones, or the other way round
-openTaken-set : (p : List ℕ) (i : ℕ) → openTaken (set p i 2) ≡ set (openTaken p) i 2
+pub openTaken-set : (p : List ℕ) (i : ℕ) → openTaken (set p i 2) ≡ set (openTaken p) i 2
 unfolding openTaken
 openTaken-set [] i = refl
 openTaken-set (zero ∷ p) zero = refl
