@@ -18,22 +18,22 @@ use Rattle.search.proofs.search.Statement.{statement}
 use Rattle.search.proofs.search.Tie as tie
 
 -- what is known of a request that the checks let through
-request-answered : (c : tie.After-known-told) → requestOutcome (c .before .before .before .before .before .before .before .args .file .now) (c .before .before .before .before .before .before .before .args .plan .now) (c .before .before .before .before .before .before .before .args .budget) (c .before .before .before .before .before .before .before .args .percent) (length (c .before .before .before .before .before .before .before .args .out .now)) ≡ answered (numbers (c .before .t .given .0 .0))
+request-answered : (c : tie.After-known-told) → let a = c .before .before .before .before .before .before .before .args in requestOutcome (a .file .now) (a .plan .now) (a .budget) (a .percent) (length (a .out .now)) ≡ answered (numbers (c .before .t .given .0 .0))
 request-answered c = accepted-request _ _ _ _ _ (c .before .before .before .accept .ensures) _ (c .before .t .given .1)
 
-request-proper : (c : tie.After-known-told) → Proper (c .before .before .before .before .before .before .before .args .file .now) (c .before .before .before .before .before .before .before .args .plan .now) (c .before .before .before .before .before .before .before .args .budget) (c .before .before .before .before .before .before .before .args .percent) (length (c .before .before .before .before .before .before .before .args .out .now))
+request-proper : (c : tie.After-known-told) → let a = c .before .before .before .before .before .before .before .args in Proper (a .file .now) (a .plan .now) (a .budget) (a .percent) (length (a .out .now))
 request-proper c = accepted-proper _ _ _ _ _ (c .before .before .before .accept .ensures) _ (c .before .t .given .1)
 
 request-scale : (c : tie.After-known-told) → c .before .t .given .0 .0 .scale ≡ scale (tableOf (c .before .before .before .before .before .before .before .args .file .now))
 request-scale c = accepted-scale _ _ _ _ _ (c .before .before .before .accept .ensures) _ (c .before .t .given .1)
 
 -- the least score that passes
-least : (c : tie.After-least-passing) → Least (tableOf (c .before .before .before .before .before .before .before .before .args .file .now)) (c .before .before .before .before .before .before .before .before .args .percent) (c .least-passing .result)
+least : (c : tie.After-least-passing) → let a = c .before .before .before .before .before .before .before .before .args in Least (tableOf (a .file .now)) (a .percent) (c .least-passing .result)
 least c = c .least-passing .ensures _ (request-scale (c .before))
 
--- what is held and counted after the visits
-held : (c : tie.After-explore) → (tallyOf (c .explore .result) ≡ visits.visited (tableOf (c .before .before .before .before .before .before .before .before .before .args .file .now)) (c .before .before .before .before .before .before .before .before .before .args .budget) (c .before .before .before .before .before .before .before .before .before .args .percent) (c .before .before .before .before .before .before .before .before .before .args .plan .now)) × Fitted (tableOf (c .before .before .before .before .before .before .before .before .before .args .file .now)) (c .explore .result)
-held c = c .explore .ensures _ (least (c .before))
+-- what the visits hold and have counted
+visited : (c : tie.After-explore) → let a = c .before .before .before .before .before .before .before .before .before .args in (tallyOf (c .explore .result) ≡ visits.visited (tableOf (a .file .now)) (a .budget) (a .percent) (a .plan .now)) × Fitted (tableOf (a .file .now)) (c .explore .result)
+visited c = c .explore .ensures _ (least (c .before))
 
 accept-requires : tie.Need-accept-requires
 accept-requires c κs = search needs
@@ -61,12 +61,12 @@ explore-requires c κs =
 
 returns-2 : tie.Need-returns-2
 returns-2 c =
-    let told = held (c .before .before) in
+    let told = visited (c .before .before) in
     search-32 _ _ _ _ _ _ (request-answered (c .before .before .before .before)) (told .0) (told .1) (not-true _ (c .if1 .taken))
 
 write-requires : tie.Need-write-requires
 write-requires c κs =
-    let fitted = held (c .before .before .before .before) .1 in
+    let fitted = visited (c .before .before .before .before) .1 in
     (request-proper (c .before .before .before .before .before .before) .sized ∙ sym (fitted .long .1), fitted .long .2)
 
 same-length : tie.Need-same-length
@@ -74,7 +74,7 @@ same-length c = search needs
 
 returns-3 : tie.Need-returns-3
 returns-3 c =
-    let told = held (c .before .before .before .before .before .before .before) in
+    let told = visited (c .before .before .before .before .before .before .before) in
     search-found _ _ _ _ _ _ (request-answered (c .before .before .before .before .before .before .before .before .before)) (told .0) (told .1) (not-false _ (c .before .before .before .before .before .if1 .left)) (c .before .before .write .ensures)
 
 pub search-spec : {M : Type 1} → statement M
