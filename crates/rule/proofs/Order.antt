@@ -83,7 +83,7 @@ first-total (keeps {m} k) (keeps l) = first-same (suc m) (first-total k l)
 -- The ranking
 
 -- The three ways in which p ranks before q
-data Before (t : Table) (p q : List ℕ) : Type 0 where
+pub data Before (t : Table) (p q : List ℕ) : Type 0 where
   higher : score t q < score t p → Before t p q
   fewer : score t p ≡ score t q → cost p < cost q → Before t p q
   first : score t p ≡ score t q → cost p ≡ cost q → takesFirst p q ≡ true → Before t p q
@@ -98,7 +98,7 @@ less-or a b c d {r} = go (ltb a b) (eqb c d) (ltb-true a b) (eqb-true c d)
     go false false f g h = absurd (false≢true h)
 
 -- the test and the three ways
-ranks : {t : Table} {p q : List ℕ} → ranksBefore t p q ≡ true → Before t p q
+pub ranks : {t : Table} {p q : List ℕ} → ranksBefore t p q ≡ true → Before t p q
 unfolding ranksBefore
 ranks {t} {p} {q} h =
     ⊎-elim

@@ -1,7 +1,9 @@
--- Laws of the search.
+-- Laws of the search, and demand 2.
 pub mod Rows
 pub mod Tallying
 pub mod OpenLines
 pub mod Positions
 pub mod Branching
 pub mod Starting
+pub mod Answering
+pub mod Demanded

@@ -1,52 +1,81 @@
+-- `search` meets its contract: a refused request leaves the buffer, and so does one whose visits hold nothing; of any other the plan held is written, with its
+-- score and the visits. Assumes nothing.
+use native.Mathlib.Omega.{arith}
+use mathlib.Core.Path.{_≡_, sym, _∙_}
+use lib.ListN.{length}
 use borrow.Author.Needs.{needs}
+use borrow.Author.Tests.{not-true, not-false}
+use Rattle.diagram.specs.Table.{tableOf, scale}
+use Rattle.diagram.specs.Visits as visits
+use Rattle.diagram.specs.Services.{answered}
+use Rattle.reading.proofs.Accepted.{passed-scale}
+use Rattle.sweep.specs.Drops.{Least}
+use Rattle.sweep.specs.Request.{requestOutcome}
+use Rattle.sweep.proofs.Requesting.{Proper, numbers, refused-request, accepted-request, accepted-proper, accepted-scale}
+use Rattle.search.specs.State.{tallyOf, Fitted}
+use Rattle.search.proofs.Answering.{search-turned, search-32, search-found}
 use Rattle.search.proofs.search.Statement.{statement}
 use Rattle.search.proofs.search.Tie as tie
-use Rattle.search.proofs.search.Reads as reads
-use Rattle.search.proofs.search.Lts as lts
-use Rattle.search.proofs.explore.explore.Reads as explore-reads
-use Rattle.search.proofs.write.Reads as write-reads
-use Rattle.sweep.proofs.least_passing.Reads as least-passing-reads
-use Rattle.sweep.proofs.accept.Reads as accept-reads
 
--- src/lib.rt:33:19
+-- what is known of a request that the checks let through
+request-answered : (c : tie.After-known-told) → let a = c .before .before .before .before .before .before .before .args in requestOutcome (a .file .now) (a .plan .now) (a .budget) (a .percent) (length (a .out .now)) ≡ answered (numbers (c .before .t .given .0 .0))
+request-answered c = accepted-request _ _ _ _ _ (c .before .before .before .accept .ensures) _ (c .before .t .given .1)
+
+request-proper : (c : tie.After-known-told) → let a = c .before .before .before .before .before .before .before .args in Proper (a .file .now) (a .plan .now) (a .budget) (a .percent) (length (a .out .now))
+request-proper c = accepted-proper _ _ _ _ _ (c .before .before .before .accept .ensures) _ (c .before .t .given .1)
+
+request-scale : (c : tie.After-known-told) → c .before .t .given .0 .0 .scale ≡ scale (tableOf (c .before .before .before .before .before .before .before .args .file .now))
+request-scale c = accepted-scale _ _ _ _ _ (c .before .before .before .accept .ensures) _ (c .before .t .given .1)
+
+-- the least score that passes
+least : (c : tie.After-least-passing) → let a = c .before .before .before .before .before .before .before .before .args in Least (tableOf (a .file .now)) (a .percent) (c .least-passing .result)
+least c = c .least-passing .ensures _ (request-scale (c .before))
+
+-- what the visits hold and have counted
+visited : (c : tie.After-explore) → let a = c .before .before .before .before .before .before .before .before .before .args in (tallyOf (c .explore .result) ≡ visits.visited (tableOf (a .file .now)) (a .budget) (a .percent) (a .plan .now)) × Fitted (tableOf (a .file .now)) (c .explore .result)
+visited c = c .explore .ensures _ (least (c .before))
+
 accept-requires : tie.Need-accept-requires
 accept-requires c κs = search needs
 
--- src/lib.rt:34:33
 enum-known-t : tie.Need-enum-known-t
 enum-known-t c = search needs
 
--- src/lib.rt:35:32
 enum-known-r : tie.Need-enum-known-r
 enum-known-r c = search needs
 
--- src/lib.rt:35:38
 returns : tie.Need-returns
-returns c = ?
+returns c =
+    search-turned _ _ _ _ _ _ (refused-request _ _ _ _ _ (c .before .before .before .accept .ensures) _ (c .before .r .given .1))
 
--- src/lib.rt:37:45
 least-passing-requires : tie.Need-least-passing-requires
-least-passing-requires c κs = ?
+least-passing-requires c κs =
+    let ok = request-proper c in
+    let scales = request-scale c in
+    (ok .percents, omega (arith, scales, passed-scale (ok .passed)))
 
--- src/lib.rt:37:9
 explore-requires : tie.Need-explore-requires
-explore-requires c κs = ?
+explore-requires c κs =
+    let ok = request-proper (c .before) in
+    (ok .passed, ((ok .long, ok .legal), (_, least c)))
 
--- src/lib.rt:39:9
 returns-2 : tie.Need-returns-2
-returns-2 c = ?
+returns-2 c =
+    let told = visited (c .before .before) in
+    search-32 _ _ _ _ _ _ (request-answered (c .before .before .before .before)) (told .0) (told .1) (not-true _ (c .if1 .taken))
 
--- src/lib.rt:45:5
 write-requires : tie.Need-write-requires
-write-requires c κs = ?
+write-requires c κs =
+    let fitted = visited (c .before .before .before .before) .1 in
+    (request-proper (c .before .before .before .before .before .before) .sized ∙ sym (fitted .long .1), fitted .long .2)
 
--- src/lib.rt:28:1
 same-length : tie.Need-same-length
 same-length c = search needs
 
--- src/lib.rt:28:1
 returns-3 : tie.Need-returns-3
-returns-3 c = ?
+returns-3 c =
+    let told = visited (c .before .before .before .before .before .before .before) in
+    search-found _ _ _ _ _ _ (request-answered (c .before .before .before .before .before .before .before .before .before)) (told .0) (told .1) (not-false _ (c .before .before .before .before .before .if1 .left)) (c .before .before .write .ensures)
 
 pub search-spec : {M : Type 1} → statement M
 search-spec =

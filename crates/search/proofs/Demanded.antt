@@ -1,0 +1,173 @@
+-- Demand 2: what `search` promises is what the briefing demands of it.
+-- Assumes nothing.
+use Prim.Native.Nat.{ℕ, zero, suc, _<_}
+use native.Mathlib.Omega.{arith}
+use mathlib.Core.Path.{_≡_, refl, ap, sym, _∙_}
+use mathlib.Core.Bool.{true, false≢true}
+use mathlib.Core.Logic.{inl, inr, ⊎-elim}
+use mathlib.Core.Option.{Option, none, some}
+use mathlib.Core.List.{List, [], _∷_}
+use lib.ListN.{length, getD}
+use lib.Dec.{leb}
+use borrow.Author.Tests.{ltb-true, lt-ltb, leb-true, le-leb, eq-eqb}
+use Rattle.diagram.specs.Table.{tableOf}
+use Rattle.diagram.specs.Score.{score}
+use Rattle.diagram.specs.Plans.{cost, takenCount, passing, passes}
+use Rattle.diagram.specs.Ranking.{takesFirst, ranksBefore, isCandidate, bestPlan}
+use Rattle.diagram.specs.Services.{refused, answered, written, Searching, searching, searchBuffer}
+use Rattle.diagram.specs.declared.refusal.Refusal.{Refusal}
+use Rattle.diagram.proofs.Every.{both, and-true-both}
+use Rattle.diagram.proofs.Rising.{Completes, complete, takes, leaves-open, keeps}
+use Rattle.rule.proofs.Order.{Before, higher, fewer, first, ranks}
+use Rattle.rule.proofs.First.{best-first, best-some}
+use Rattle.sweep.proofs.Completing.{completion-completes, completes-completion}
+use Rattle.sweep.proofs.Requesting.{request-accepted, search-answered}
+use Rattle.sweep.proofs.Demanded.{marks-fit}
+use Rattle.search.specs.declared.answer.Finding.{Finding}
+use Rattle.search.specs.declared.answer.SearchAnswer.{SearchAnswer}
+use Rattle.search.specs.declared.answer.SearchAnswer.the-variants.{Found, Refused}
+use Rattle.search.specs.Answer.{searchOf}
+use Rattle.search.specs.Demand.{Candidate, TakesFirst, RanksBefore, FirstCandidate, SearchHolds, Demand2}
+
+-- ---------------------------------------------------------------------------
+-- The ranking
+
+-- with the same mark in front of both, the first line where two differ is one further on
+further : (m : ℕ) {c d : List ℕ} → TakesFirst c d → TakesFirst (m ∷ c) (m ∷ d)
+further m {c} {d} h =
+    record {
+      line = suc (h .line);
+      line-within = let l = h .line-within in omega arith;
+      alike-before = alike;
+      takes = h .takes;
+      leaves = h .leaves;
+    }
+  where
+    alike : (i : ℕ) → i < suc (h .line) → getD (m ∷ c) i 0 ≡ getD (m ∷ d) i 0
+    alike zero l = refl
+    alike (suc i) l = h .alike-before i (omega arith)
+
+-- at the lowest choice number where two completions of a plan differ, the one that comes first takes and the other leaves
+first-line : {p c d : List ℕ} → Completes p c → Completes p d → takesFirst c d ≡ true → TakesFirst c d
+unfolding takesFirst
+first-line complete complete h = absurd (false≢true h)
+first-line (takes k) (takes l) h = further 1 (first-line k l h)
+first-line (takes k) (leaves-open l) h =
+    record { line = 0; line-within = omega arith; alike-before = λ i l. absurd (omega arith); takes = refl; leaves = refl }
+first-line (leaves-open k) (takes l) h = absurd (false≢true h)
+first-line (leaves-open k) (leaves-open l) h = further 2 (first-line k l h)
+first-line (keeps {m} k) (keeps l) h = further (suc m) (first-line k l (rw (eq-eqb (suc m) (suc m) refl) at h))
+
+-- one of two completions that ranks before the other does so in the demand's words
+ranks-before : (s : List ℕ) {p c d : List ℕ} → Completes p c → Completes p d → ranksBefore (tableOf s) c d ≡ true → RanksBefore s c d
+unfolding cost
+ranks-before s {p} {c} {d} k l h = go (ranks h)
+  where
+    go : Before (tableOf s) c d → RanksBefore s c d
+    go (higher x) = inl x
+    go (fewer e x) = inr (e, inl x)
+    go (first e f x) = inr (e, inr (f, first-line k l x))
+
+-- ---------------------------------------------------------------------------
+-- The answer and the buffer
+
+-- an answer with its buffer that stands for a score, visits and a plan
+found-is : (answer : SearchAnswer) (plan : List ℕ) {x v : ℕ} {q : List ℕ} → searchOf answer plan ≡ answered (record { score = x; visits = v; plan = q }) → (answer ≡ Found (record { score = x; visits = v })) × (plan ≡ q)
+unfolding searchOf
+found-is (Found f) plan {x} {v} {q} e =
+    let same : _≡_ {A = Searching} (record { score = f .score; visits = f .visits; plan = plan }) (record { score = x; visits = v; plan = q }) = cc in
+    (ap (λ (a : Searching). Found (record { score = a .score; visits = a .visits })) same, ap (λ (a : Searching). a .plan) same)
+found-is (Refused r) plan e =
+    let z : _≡_ {A = ℕ} 0 1 = cc in
+    absurd (omega arith)
+
+-- an answer that stands for a refusal
+refused-is : (answer : SearchAnswer) (plan : List ℕ) {n i : ℕ} → searchOf answer plan ≡ refused n i → answer ≡ Refused (record { number = n; place = i })
+unfolding searchOf
+refused-is (Found f) plan e =
+    let z : _≡_ {A = ℕ} 0 1 = cc in
+    absurd (omega arith)
+refused-is (Refused r) plan {n} {i} e =
+    let a : r .number ≡ n = cc in
+    let b : r .place ≡ i = cc in
+    rw (← a, ← b) refl
+
+-- no answer is a finding and a refusal
+found-not-refused : {f : Finding} {r : Refusal} → Found f ≡ Refused r → ⊥
+found-not-refused e =
+    let z : _≡_ {A = ℕ} 0 1 = cc in
+    omega arith
+
+-- ---------------------------------------------------------------------------
+-- The search
+
+module _ (s p : List ℕ) (budget percent : ℕ) where
+  -- a candidate finishes the plan, and its test holds
+  candidate-test : {c : List ℕ} → Candidate s p budget percent c → Completes p c × (isCandidate (tableOf s) budget percent c ≡ true)
+  unfolding isCandidate cost passing passes
+  candidate-test {c} k =
+      (completion-completes p c (k .finishes), and-true-both _ _ (le-leb _ _ (k .within)) (lt-ltb _ _ (k .passes)))
+
+  -- a plan that finishes the one given and whose test holds is a candidate
+  test-candidate : {c : List ℕ} → Completes p c → isCandidate (tableOf s) budget percent c ≡ true → Candidate s p budget percent c
+  unfolding isCandidate cost passing passes
+  test-candidate {c} k e =
+      let r = both (leb (takenCount c) budget) e in
+      record { finishes = completes-completion k; within = leb-true _ _ (r .0); passes = ltb-true _ _ (r .1) }
+
+  -- what is demanded where there is no best plan
+  none-holds : bestPlan (tableOf s) budget percent p ≡ none → (held : List ℕ) → SearchHolds s p budget percent held (Refused (record { number = 32; place = 0 })) held
+  none-holds e held =
+      record {
+        answers = inr refl;
+        finds = λ f q. absurd (found-not-refused (sym q));
+        refuses = (
+          λ q c k. let r = candidate-test k in best-some (tableOf s) budget percent p c (r .0) (r .1) e,
+          λ n. refl,
+        );
+        leaves = λ q. refl;
+      }
+
+  -- the best plan is the first candidate
+  best-candidate : (b : List ℕ) → bestPlan (tableOf s) budget percent p ≡ some b → FirstCandidate s p budget percent b
+  best-candidate b e =
+      let best = best-first (tableOf s) budget percent p b e in
+      record {
+        candidate = test-candidate (best .0) (best .1);
+        first = λ c k.
+            let r = candidate-test k in
+            ⊎-elim inl (λ h. inr (ranks-before s (best .0) (r .0) h)) (best .2 c (r .0) (r .1));
+      }
+
+  -- what is demanded where there is one
+  some-holds : (b : List ℕ) → bestPlan (tableOf s) budget percent p ≡ some b → (v : ℕ) (held : List ℕ) → SearchHolds s p budget percent held (Found (record { score = score (tableOf s) b; visits = v })) b
+  some-holds b e v held =
+      let best = best-candidate b e in
+      record {
+        answers = inl (_, refl);
+        finds = λ f q. (best, cc);
+        refuses = (λ q. absurd (found-not-refused q), λ n. absurd (n b (best .candidate)));
+        leaves = λ q. absurd (found-not-refused q);
+      }
+
+  -- the search's answer and buffer, by whether there is one
+  search-holds : (held plan : List ℕ) (answer : SearchAnswer) → searchOf answer plan ≡ searching (tableOf s) budget percent p → plan ≡ written (λ a. a .plan) (searching (tableOf s) budget percent p) held → SearchHolds s p budget percent held answer plan
+  unfolding searching written
+  search-holds held plan answer e b = go (bestPlan (tableOf s) budget percent p) refl
+    where
+      go : (c : Option (List ℕ)) → bestPlan (tableOf s) budget percent p ≡ c → SearchHolds s p budget percent held answer plan
+      go none q =
+          let is = refused-is answer plan (rw (q, searching) at e) in
+          let same : plan ≡ held = rw (q, searching) at b in
+          rw (is, same) (none-holds q held)
+      go (some c) q =
+          let is = found-is answer plan (rw (q, searching) at e) in
+          rw (is .0, is .1) (some-holds c q _ held)
+
+-- demand 2: the promise of `search` is turned into what is demanded
+pub demand-2 : Demand2
+unfolding Demand2 searchBuffer
+demand-2 s p read legal budget percent held plan answer kits h fits e b =
+    let request = request-accepted s p budget percent (length held) read (legal .size) (marks-fit p [] (legal .marks)) h kits (fits ∙ legal .size) in
+    let is = search-answered s p (length held) percent budget _ (sym request) in
+    search-holds s p budget percent held plan answer (e ∙ is) (b ∙ rw is refl)
