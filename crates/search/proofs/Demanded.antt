@@ -21,13 +21,13 @@ use Rattle.diagram.proofs.Rising.{Completes, complete, takes, leaves-open, keep
 use Rattle.rule.proofs.Order.{Before, higher, fewer, first, ranks}
 use Rattle.rule.proofs.First.{best-first, best-some}
 use Rattle.sweep.proofs.Completing.{completion-completes, completes-completion}
-use Rattle.sweep.proofs.Requesting.{request-accepted, search-answered}
-use Rattle.sweep.proofs.Demanded.{marks-fit}
+use Rattle.sweep.proofs.Requesting.{search-answered}
+use Rattle.sweep.proofs.Demanded.{legal-request}
 use Rattle.search.specs.declared.answer.Finding.{Finding}
 use Rattle.search.specs.declared.answer.SearchAnswer.{SearchAnswer}
 use Rattle.search.specs.declared.answer.SearchAnswer.the-variants.{Found, Refused}
 use Rattle.search.specs.Answer.{searchOf}
-use Rattle.search.specs.Demand.{Candidate, TakesFirst, RanksBefore, FirstCandidate, SearchHolds, Demand2}
+use Rattle.search.specs.Demand.{Candidate, TakesFirst, RanksBefore, FirstCandidate, no-candidate, SearchHolds, Demand2}
 
 -- ---------------------------------------------------------------------------
 -- The ranking
@@ -116,7 +116,7 @@ module _ (s p : List ℕ) (budget percent : ℕ) where
       record { finishes = completes-completion k; within = leb-true _ _ (r .0); passes = ltb-true _ _ (r .1) }
 
   -- what is demanded where there is no best plan
-  none-holds : bestPlan (tableOf s) budget percent p ≡ none → (held : List ℕ) → SearchHolds s p budget percent held (Refused (record { number = 32; place = 0 })) held
+  none-holds : bestPlan (tableOf s) budget percent p ≡ none → (held : List ℕ) → SearchHolds s p budget percent held no-candidate held
   none-holds e held =
       record {
         answers = inr refl;
@@ -168,6 +168,5 @@ module _ (s p : List ℕ) (budget percent : ℕ) where
 pub demand-2 : Demand2
 unfolding Demand2 searchBuffer
 demand-2 s p read legal budget percent held plan answer kits h fits e b =
-    let request = request-accepted s p budget percent (length held) read (legal .size) (marks-fit p [] (legal .marks)) h kits (fits ∙ legal .size) in
-    let is = search-answered s p (length held) percent budget _ (sym request) in
+    let is = search-answered s p (length held) percent budget _ (legal-request s p read legal (length held) fits budget percent kits h) in
     search-holds s p budget percent held plan answer (e ∙ is) (b ∙ rw is refl)

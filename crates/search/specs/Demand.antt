@@ -1,5 +1,6 @@
--- Demand 2 of the briefing, in its words and with its quantifiers written out. It speaks of what `search` returns and writes, and of scores as document 01
--- defines them; nothing in it is about a visit or a fold. Document 01 explains the words.
+-- Demand 2 of the briefing, in its words and with its quantifiers written out. It speaks of what `search` returns and writes, and of scores; nothing in it
+-- is about a visit or a fold. Document 01 explains the words. The demand's first sentence, what a score is, is the definition of `score` (`diagram`,
+-- Score): the explicit sum over all settlings of all chances.
 use Prim.Native.Nat.{ℕ, _≤_, _<_}
 use mathlib.Core.Path.{_≡_}
 use mathlib.Core.Logic.{_⊎_, _↔_}
@@ -43,16 +44,20 @@ pub record FirstCandidate (file plan : List ℕ) (budget percent : ℕ) (way : L
   pub candidate : Candidate file plan budget percent way
   pub first : (other : List ℕ) → Candidate file plan budget percent other → (other ≡ way) ⊎ RanksBefore file way other
 
+-- The answer 32
+abbrev pub no-candidate : SearchAnswer
+no-candidate = Refused (record { number = 32; place = 0 })
+
 -- What demand 2 says of the search's answer and of the plan that it writes over what the buffer held
 pub record SearchHolds (file plan : List ℕ) (budget percent : ℕ) (held : List ℕ) (answer : SearchAnswer) (written : List ℕ) : Type 0 where
   -- the search finds a plan or answers 32
-  pub answers : ((f : Finding) × (answer ≡ Found f)) ⊎ (answer ≡ Refused (record { number = 32; place = 0 }))
+  pub answers : ((f : Finding) × (answer ≡ Found f)) ⊎ (answer ≡ no-candidate)
   -- "The plan returned is the first", and the score returned is its score, "with no rounding"
   pub finds : (f : Finding) → answer ≡ Found f → FirstCandidate file plan budget percent written × (f .score ≡ score (tableOf file) written)
   -- "32 is returned if there is no such plan, and only then"
-  pub refuses : (answer ≡ Refused (record { number = 32; place = 0 })) ↔ ((way : List ℕ) → Candidate file plan budget percent way → ⊥)
-  -- "a turned-away request leaves the plan [...] as they were"
-  pub leaves : answer ≡ Refused (record { number = 32; place = 0 }) → written ≡ held
+  pub refuses : (answer ≡ no-candidate) ↔ ((way : List ℕ) → Candidate file plan budget percent way → ⊥)
+  -- and, of demand 1, "a turned-away request leaves the plan and the drops as they were"
+  pub leaves : answer ≡ no-candidate → written ≡ held
 
 -- Demand 2: for every accepted table, every legal marking, and kits and percent within their limits ("Once every other check passes"). The buffer handed
 -- in has one place a choice. What is assumed of answer and buffer is word for word what `search` promises.

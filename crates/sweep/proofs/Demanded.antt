@@ -35,7 +35,7 @@ use Rattle.sweep.proofs.Completing.{open-test, test-open, closed-test, 
 -- The checks
 
 -- marks of at most 2 pass check 22
-pub marks-fit : (p s : List ℕ) → ((i : ℕ) → i < length p → getD p i 0 ≤ 2) → planMarkFault p s ≡ none
+marks-fit : (p s : List ℕ) → ((i : ℕ) → i < length p → getD p i 0 ≤ 2) → planMarkFault p s ≡ none
 unfolding planMarkFault
 marks-fit p s h = no-place (λ i. ltb 2 (getD p i 0)) 0 (length p) (λ k l. rw zero-add (le-ltb 2 _ (h k l)))
 
