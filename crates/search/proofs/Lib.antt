@@ -3,3 +3,4 @@ pub mod Tallying
 pub mod OpenLines
 pub mod Branching
 pub mod Starting
+pub mod VisitSteps
