@@ -4,6 +4,7 @@ pub mod Tallying
 pub mod OpenLines
 pub mod Positions
 pub mod Branching
+pub mod VisitSteps
 pub mod Starting
 pub mod Answering
 pub mod Demanded
