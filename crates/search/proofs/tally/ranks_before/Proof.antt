@@ -1,25 +1,28 @@
+-- `ranks_before` meets its contract: scores that differ decide, then costs that differ, then the lines. Assumes nothing.
+use mathlib.Core.Path.{refl}
 use borrow.Author.Needs.{needs}
+use Rattle.search.specs.State.{rows}
+use Rattle.search.proofs.Tallying.{ranks-score, ranks-cost, ranks-lines}
 use Rattle.search.proofs.tally.ranks_before.Statement.{statement}
 use Rattle.search.proofs.tally.ranks_before.Tie as tie
-use Rattle.search.proofs.tally.ranks_before.Reads as reads
-use Rattle.search.proofs.tally.ranks_before.Lts as lts
-use Rattle.search.proofs.tally.takes_first.Reads as takes-first-reads
 
--- src/tally.rt:90:9
 returns : tie.Need-returns
-returns c = ?
+returns c =
+    let a = c .before .args in
+    ranks-score (a .score) (a .cost) (rows (a .plan)) (a .other-score) (a .other-cost) (rows (a .other)) (c .if1 .taken) refl
 
--- src/tally.rt:93:9
 returns-2 : tie.Need-returns-2
-returns-2 c = ?
+returns-2 c =
+    let a = c .before .before .args in
+    ranks-cost (a .score) (a .cost) (rows (a .plan)) (a .other-score) (a .other-cost) (rows (a .other)) (c .before .if1 .left) (c .if2 .taken) refl
 
--- src/tally.rt:95:5
 takes-first-requires : tie.Need-takes-first-requires
 takes-first-requires c κs = search needs
 
--- src/tally.rt:78:1
 returns-3 : tie.Need-returns-3
-returns-3 c = ?
+returns-3 c =
+    let a = c .before .before .before .args in
+    ranks-lines (a .score) (a .cost) (rows (a .plan)) (a .other-score) (a .other-cost) (rows (a .other)) (c .before .before .if1 .left) (c .before .if2 .left) (c .takes-first .ensures)
 
 pub ranks-before-spec : {M : Type 1} → statement M
 ranks-before-spec = tie.close (tie.spec returns returns-2 takes-first-requires returns-3)

@@ -1,45 +1,61 @@
+-- `takes_first` meets its contract. The loop's invariant: which of the two plans takes the first line where they differ is told by their lines from i on.
+-- The measure is the number of lines left. Assumes nothing.
+use Prim.Native.Nat.{_-_, _≤_}
+use native.Mathlib.Omega.{arith}
+use mathlib.Core.Path.{_≡_, refl, sym, _∙_}
+use lib.ListN.{length, drop}
+use borrow.Author.Needs.{needs}
+use Rattle.diagram.specs.Ranking.{takesFirst}
+use Rattle.search.specs.State.{rows}
+use Rattle.search.proofs.Tallying.{first-here, first-next, first-end}
 use Rattle.search.proofs.tally.takes_first.Statement.{statement}
 use Rattle.search.proofs.tally.takes_first.Tie as tie
-use Rattle.search.proofs.tally.takes_first.Reads as reads
-use Rattle.search.proofs.tally.takes_first.Lts as lts
 
 abbrev Inv-loop : tie.InvT-loop
-Inv-loop plan other n i₀ i = ?
+Inv-loop plan other n i₀ i =
+    (i ≤ n) × (takesFirst (rows plan) (rows other) ≡ takesFirst (drop i (rows plan)) (drop i (rows other)))
 
 abbrev μ-loop : tie.MeasureT-loop
-μ-loop plan other n i₀ i = ?
+μ-loop plan other n i₀ i = n - i
 
--- src/tally.rt:105:5
 loop-holds : tie.Need-loop-holds Inv-loop μ-loop
-loop-holds c = ?
+loop-holds c = (omega arith, refl)
 
--- src/tally.rt:106:20
 element-copy-out-mark : tie.Need-element-copy-out-mark Inv-loop μ-loop
-element-copy-out-mark c = ?
+element-copy-out-mark c = omega arith
 
--- src/tally.rt:107:20
 element-copy-out-if1 : tie.Need-element-copy-out-if1 Inv-loop μ-loop
-element-copy-out-if1 c = ?
+element-copy-out-if1 c = omega arith
 
--- src/tally.rt:108:13
 returns : tie.Need-returns Inv-loop μ-loop
-returns c = ?
+returns c =
+    let at = c .before .before .before .before in
+    let p = at .before .args .t1 in
+    let q = at .before .args .t2 in
+    let long : (length (p .marks) ≡ 20) × (length (q .marks) ≡ 20) = search needs in
+    sym (at .loop .inv .1 ∙ first-here p q (at .before .pre .0) (at .before .pre .1) long (at .loop .i) (omega arith) refl refl (c .if1 .taken) refl)
 
--- src/tally.rt:110:9
 add-i : tie.Need-add-i Inv-loop μ-loop
-add-i c = ?
+add-i c = omega arith
 
--- src/tally.rt:105:5
 loop-less : tie.Need-loop-less Inv-loop μ-loop
-loop-less c = ?
+loop-less c = omega arith
 
--- src/tally.rt:105:5
 loop-again : tie.Need-loop-again Inv-loop μ-loop
-loop-again c = ?
+loop-again c =
+    let at = c .before .before .before .before in
+    let p = at .before .args .t1 in
+    let q = at .before .args .t2 in
+    let long : (length (p .marks) ≡ 20) × (length (q .marks) ≡ 20) = search needs in
+    (omega arith, at .loop .inv .1 ∙ first-next p q (at .before .pre .0) (at .before .pre .1) long (at .loop .i) (omega arith) refl refl (c .if1 .left))
 
--- src/tally.rt:99:1
 returns-2 : tie.Need-returns-2 Inv-loop μ-loop
-returns-2 c = ?
+returns-2 c =
+    let at = c .before in
+    let p = at .before .args .t1 in
+    let q = at .before .args .t2 in
+    let long : (length (p .marks) ≡ 20) × (length (q .marks) ≡ 20) = search needs in
+    sym (at .loop .inv .1 ∙ first-end p q (at .before .pre .0) (at .before .pre .1) long (at .loop .i) (omega arith))
 
 pub takes-first-spec : {M : Type 1} → statement M
 takes-first-spec =
