@@ -1,7 +1,6 @@
 -- A tally in the terms of the visit rule: its tests, the ranking of two plans, and the plan that it holds after a finished plan.
 -- Assumes that the score and the cost held are the held plan's (`Fitted`), and in the tests that `least` is the least score that passes.
 use Prim.Native.Nat.{ℕ, _+_, _≤_, _<_}
-use native.Mathlib.Numerals.{add-one}
 use native.Mathlib.Omega.{arith}
 use mathlib.Core.Path.{_≡_, refl, sym, _∙_}
 use mathlib.Core.Bool.{Bool, true, false, cond, not, _&&_, _||_, or-false, Bool·not-not}
@@ -9,7 +8,7 @@ use mathlib.Core.List.{List, _∷_}
 use mathlib.Core.Option.{none, some}
 use lib.ListN.{length, getD, take, drop, drop-of-length-le}
 use lib.Dec.{eqb, ltb}
-use lib.Seq.{drop-cons, getD-take, length-take-le}
+use lib.Seq.{length-take-le}
 use borrow.Author.Tests.{lt-ltb, le-ltb, eq-eqb, ne-eqb}
 use Rattle.diagram.specs.Table.{Table, choiceCount}
 use Rattle.diagram.specs.Score.{score}
@@ -21,6 +20,7 @@ use Rattle.sweep.specs.Drops.{Least}
 use Rattle.search.specs.declared.branch.Branch.{Branch}
 use Rattle.search.specs.declared.tally.Tally.{Tally}
 use Rattle.search.specs.State.{rows, heldOf, Fitted, ranksOver, kept}
+use Rattle.search.proofs.Rows.{row-cons}
 
 -- ---------------------------------------------------------------------------
 -- The tests, over plain numbers
@@ -74,12 +74,6 @@ module _ (x c : ℕ) (p : List ℕ) (y d : ℕ) (q : List ℕ) {r : Bool} where
   pub ranks-lines : x ≡ y → c ≡ d → r ≡ takesFirst p q → r ≡ ranksOver x c p y d q
   unfolding ranksOver
   ranks-lines e f g = simp (le-ltb y x (omega arith), eq-eqb x y e, le-ltb c d (omega arith), eq-eqb c d f) g
-
--- the marks from line i on
-row-cons : (l : List ℕ) (n i : ℕ) → n ≤ length l → i < n → drop i (take n l) ≡ getD l i 0 ∷ drop (i + 1) (take n l)
-row-cons l n i h k =
-    let below : i < length (take n l) = rw (length-take-le n l h) k in
-    rw (add-one, drop-cons (take n l) i 0 below, getD-take n l i 0 k)
 
 module _ (p q : Plan) (same : p .count ≡ q .count) (few : p .count ≤ 20) (long : (length (p .marks) ≡ 20) × (length (q .marks) ≡ 20)) (i : ℕ) where
   module _ (h : i < p .count) {m n : ℕ} (e : m ≡ getD (p .marks) i 0) (f : n ≡ getD (q .marks) i 0) where

@@ -28,11 +28,11 @@ pub fn goes_back(job: Job, cost: u32, bound: u64, held: bool, score: u64) -> boo
 }
 
 // Whether a plan with a line left is visited: its bound passes and, where a best plan is held, is not less than its score.
-pub fn is_worthwhile(job: Job, bound: u64, held: bool, score: u64) -> bool
-    ensures { λ r. ⌜ r ≡ (not (ltb bound (job .least)) && not (held && ltb bound score)) ⌝ }
+pub fn is_worthwhile(job: Job, left: u64, held: bool, score: u64) -> bool
+    ensures { λ r. ⌜ r ≡ (not (ltb left (job .least)) && not (held && ltb left score)) ⌝ }
 {
-    if bound < job.least {
+    if left < job.least {
         return false;
     }
-    !(held && bound < score)
+    !(held && left < score)
 }
