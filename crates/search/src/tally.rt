@@ -36,12 +36,13 @@ pub fn counted(tally: Tally) -> Tally
     ensures { λ r. ⌜ r ≡ record { held = tally .held; best = tally .best; score = tally .score; cost = tally .cost; visits = tally .visits + 1 } ⌝ }
 {
     let best = tally.best;
+    let visits = tally.visits + 1;
     Tally {
         held: tally.held,
         best,
         score: tally.score,
         cost: tally.cost,
-        visits: tally.visits + 1,
+        visits,
     }
 }
 

@@ -4,11 +4,11 @@ use borrow.Author.Needs.{needs}
 use Rattle.search.proofs.tally.counted.Statement.{statement}
 use Rattle.search.proofs.tally.counted.Tie as tie
 
-add-result : tie.Need-add-result
-add-result c = search needs
+add-visits : tie.Need-add-visits
+add-visits c = search needs
 
 returns : tie.Need-returns
 returns c = refl
 
 pub counted-spec : {M : Type 1} → statement M
-counted-spec = tie.close (tie.spec add-result returns)
+counted-spec = tie.close (tie.spec add-visits returns)
