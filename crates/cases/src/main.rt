@@ -243,7 +243,8 @@ impl Line {
         if 9 < d {
             return self;
         }
-        match self.commas {
+        let commas = self.commas;
+        match commas {
             0 => self.size = append(self.size, d),
             1 => self.percent = append(self.percent, d),
             _ => self.kits = append(self.kits, d),
