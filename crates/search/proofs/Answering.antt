@@ -59,18 +59,19 @@ module _ (s p held : List ℕ) (budget percent : ℕ) where
     visits-counted = sym (ap (λ (u : visits.Tally). u .visits) told)
 
     -- 32 where nothing is held
-    pub search-32 : w .held ≡ false → Promised (Refused (record { number = 32; place = 0 })) held
+    pub search-32 : w .held ≡ false → {n i : ℕ} → n ≡ 32 → i ≡ 0 → Promised (Refused (record { number = n; place = i })) held
     unfolding searching heldOf
-    search-32 f =
-        refuses
+    search-32 f en ei =
+        rw (en, ei)
+        (refuses
         (record { number = 32; place = 0 })
-        (search-answered s p (length held) percent budget r e ∙ rw (best-held, f, searching) refl)
+        (search-answered s p (length held) percent budget r e ∙ rw (best-held, f, searching) refl))
 
     -- else the plan held, with its score and the visits
-    pub search-found : w .held ≡ true → {out : List ℕ} → out ≡ rows (w .best) → Promised (Found (record { score = w .score; visits = w .visits })) out
+    pub search-found : w .held ≡ true → {out : List ℕ} → out ≡ rows (w .best) → {x v : ℕ} → x ≡ w .score → v ≡ w .visits → Promised (Found (record { score = x; visits = v })) out
     unfolding searching heldOf searchOf visitsOf searchBuffer written
-    search-found h {out} q =
+    search-found h {out} q ex ev =
         let is-found : searching (tableOf s) budget percent p ≡ answered (record { score = w .score; visits = w .visits; plan = out }) = rw (best-held, h, visits-counted, fitted .score h, q, searching) refl in
         let found = search-answered s p (length held) percent budget r e ∙ is-found in
         let few = visits-bounded (tableOf s) (passed-formed passed) (passed-monotone passed) budget percent p in
-        (sym found, (rw found refl, omega (arith, visits-counted, few)))
+        rw (ex, ev) (sym found, (rw found refl, omega (arith, visits-counted, few)))

@@ -1,7 +1,7 @@
 -- `search` meets its contract: a refused request leaves the buffer, and so does one whose visits hold nothing; of any other the plan held is written, with its
 -- score and the visits. Assumes nothing.
 use native.Mathlib.Omega.{arith}
-use mathlib.Core.Path.{_≡_, sym, _∙_}
+use mathlib.Core.Path.{_≡_, refl, sym, _∙_}
 use lib.ListN.{length}
 use borrow.Author.Needs.{needs}
 use borrow.Author.Tests.{not-true, not-false}
@@ -62,7 +62,7 @@ explore-requires c κs =
 returns-2 : tie.Need-returns-2
 returns-2 c =
     let told = visited (c .before .before) in
-    search-32 _ _ _ _ _ _ (request-answered (c .before .before .before .before)) (told .0) (told .1) (not-true _ (c .if1 .taken))
+    search-32 _ _ _ _ _ _ (request-answered (c .before .before .before .before)) (told .0) (told .1) (not-true _ (c .if1 .taken)) refl refl
 
 write-requires : tie.Need-write-requires
 write-requires c κs =
@@ -75,7 +75,7 @@ same-length c = search needs
 returns-3 : tie.Need-returns-3
 returns-3 c =
     let told = visited (c .before .before .before .before .before .before .before) in
-    search-found _ _ _ _ _ _ (request-answered (c .before .before .before .before .before .before .before .before .before)) (told .0) (told .1) (not-false _ (c .before .before .before .before .before .if1 .left)) (c .before .before .write .ensures)
+    search-found _ _ _ _ _ _ (request-answered (c .before .before .before .before .before .before .before .before .before)) (told .0) (told .1) (not-false _ (c .before .before .before .before .before .if1 .left)) (c .before .before .write .ensures) refl refl
 
 pub search-spec : {M : Type 1} → statement M
 search-spec =
