@@ -25,7 +25,8 @@ pub struct Branch {
     pub settled: usize,
 }
 
-// The branch with its lowest open line taken. That leaves the bound as it is.
+// The branch with its lowest open line taken. That leaves the bound as it is. `visit` hands in a line of the table, of which
+// there are at most 20.
 pub fn take_line(branch: Branch, line: Choice) -> Branch
     requires { ⌜ (line .0 < 20) × (branch .cost ≤ 20) × (branch .settled ≤ 20) ⌝ }
     ensures { λ r. ⌜ r ≡ taken branch (line .0) ⌝ }

@@ -14,7 +14,7 @@ pub struct Lines {
     pub count: usize,
 }
 
-// The open lines of a plan.
+// The open lines of a plan, which has at most 20 lines, as `Plan::of_marks` leaves it.
 pub fn open_lines(plan: Plan) -> Lines
     requires { ⌜ plan .count ≤ 20 ⌝ }
     ensures { λ r. ⌜ (r .count ≤ 20) × (take (r .count) (r .numbers) ≡ openLines (rows plan)) ⌝ }
@@ -33,7 +33,7 @@ pub fn open_lines(plan: Plan) -> Lines
     Lines { numbers, count }
 }
 
-// What a plan costs: a kit for each line taken.
+// What a plan costs: a kit for each line taken. The plan has at most 20 lines, as `Plan::of_marks` leaves it.
 pub fn cost_of(plan: Plan) -> u32
     requires { ⌜ plan .count ≤ 20 ⌝ }
     ensures { λ r. ⌜ r ≡ plans.cost (rows plan) ⌝ }
@@ -50,7 +50,7 @@ pub fn cost_of(plan: Plan) -> u32
     cost
 }
 
-// The open line at a place of the list.
+// The open line at a place of the list. `visit` has fewer than 20 settled lines where one is open.
 pub fn line_at(numbers: &[u8; 20], i: usize) -> Choice
     requires { ⌜ i < 20 ⌝ }
     ensures { λ r. ⌜ r .0 ≡ getD (now (numbers .entry)) i 0 ⌝ }

@@ -30,7 +30,7 @@ pub fn nothing(plan: Plan) -> Tally
     }
 }
 
-// One visit more.
+// One visit more. There is room: `visit` shows that a search makes at most 2^21 visits.
 pub fn counted(tally: Tally) -> Tally
     requires { ⌜ tally .visits < 2 ^ 63 ⌝ }
     ensures { λ r. ⌜ r ≡ record { held = tally .held; best = tally .best; score = tally .score; cost = tally .cost; visits = tally .visits + 1 } ⌝ }
@@ -46,7 +46,8 @@ pub fn counted(tally: Tally) -> Tally
     }
 }
 
-// The finished plan becomes the best held if none is held or it ranks before it.
+// The finished plan becomes the best held if none is held or it ranks before it. Both are of the same table, and so have as
+// many lines.
 pub fn keep(branch: Branch, tally: Tally) -> Tally
     requires { ⌜ (branch .plan .count ≡ tally .best .count) × (branch .plan .count ≤ 20) ⌝ }
     ensures { λ r. ⌜ r ≡ kept branch tally ⌝ }

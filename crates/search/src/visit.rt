@@ -17,7 +17,7 @@ ghost use Rattle.rule.specs.Rule as rules;
 ghost use Rattle.search.specs.State.{rows, tallyOf, Ground, Stands, Fitted};
 
 // Visits a branch, and answers what is held and counted then. The arrays hold a table, as `lay_out` leaves them, `places` the
-// positions of its choices, and `numbers` the lines that were open at the start.
+// positions of its choices, and `numbers` the lines that were open at the start; `first_visit` hands in the first branch.
 pub fn visit(
     positions: &[u8; 256],
     high: &[u8; 256],
