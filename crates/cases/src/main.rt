@@ -1,6 +1,6 @@
 // Runs the services on the cases of standard input, a line each, and writes what they answer.
 //
-// A line is a label, a colon, a letter for the service (r reads, s scores, w sweeps, f filters, p plans by the search), the
+// A line is a label, a colon, a letter for the service (r reads, s scores, w sweeps, f filters, p plans by the search, j runs a job), the
 // file's bytes in hexadecimal, after a bar the plan's marks, a digit each, and after another bar the size of the lent buffer
 // and, each after a comma, the percentage and the kits; spaces count for nothing. The label is written back, then the answer, and then the lent buffer, in
 // which every place is 7 to begin with. A line without a colon is written back as it is.
@@ -78,6 +78,7 @@ fn run(line: Line, file: &[u8], plan: &[u8]) {
         b'w' => run_sweep(file, plan, line.size),
         b'f' => run_filter(file, plan, line.percent, line.size),
         b'p' => run_search(file, plan, line.kits, line.percent, line.size),
+        b'j' => run_job(file),
         _ => show_text(b" no such service"),
     }
     show_text(b"\n");
@@ -123,6 +124,15 @@ fn search_into(file: &[u8], plan: &[u8], kits: u32, percent: u32, out: &mut [u8]
     show_search(search::search(file, plan, kits, percent, out));
     show_text(b", plan");
     show_marks(out);
+}
+
+// Runs the program's own function on an input, and writes what it prints on lines of its own.
+fn run_job(input: &[u8]) {
+    let text = printout::print(input);
+    let bytes = text.bytes;
+    let n = text.count;
+    show_text(b"\n");
+    show_text(&bytes[..n]);
 }
 
 // A size, cut to 24.

@@ -1,0 +1,89 @@
+// From the bytes that the program reads to the text that it prints: a job word, then a table.
+use crate::text::put_plan;
+use crate::text::put_refusal;
+use diagram::Plan;
+use diagram::field_p;
+use diagram::field_q;
+use diagram::field_r;
+use diagram::kind;
+use diagram::word_at;
+use reading::ReadAnswer;
+use reading::read;
+use search::SearchAnswer;
+use search::search;
+ghost use mathlib.Core.Path.{_≡_};
+ghost use Prim.Native.Nat.{_≤_};
+ghost use lib.ListN.{length, take, drop};
+ghost use Rattle.diagram.specs.Table.{tableOf};
+ghost use Rattle.diagram.specs.Printout.{searchText, jobOutcome, programOutcome, printout};
+ghost use Rattle.printout.specs.Writing.{Wrote};
+
+// The text printed: the first `count` bytes, in ASCII.
+pub struct Text {
+    pub bytes: [u8; 1024],
+    pub count: usize,
+}
+
+// What is printed for an input, of which at most 1,265 bytes are read: a job word, then a table.
+pub fn print(input: &[u8]) -> Text
+    ensures text { λ r. ⌜ take (r .count) (r .bytes) ≡ printout (now (input .entry)) ⌝ }
+    ensures count { λ r. ⌜ (r .count ≡ length (printout (now (input .entry)))) × (r .count ≤ 1024) ⌝ }
+{
+    let mut bytes = [0u8; 1024];
+    let n = at_most_1265(input);
+    let count = put_job(&mut bytes[..], &input[..n]);
+    Text { bytes, count }
+}
+
+// How many bytes of an input are read.
+fn at_most_1265(input: &[u8]) -> usize
+    ensures { λ r. ⌜ (r ≤ length (now (input .entry))) × (take r (now (input .entry)) ≡ take 1265 (now (input .entry))) ⌝ }
+{
+    if input.len() < 1265 {
+        input.len()
+    } else {
+        1265
+    }
+}
+
+// Writes what is printed for the bytes that are read, refusal 10 first. The buffer is `print`'s.
+fn put_job(out: &mut [u8], input: &[u8]) -> usize
+    requires { ⌜ 1024 ≤ length (now out) ⌝ }
+    ensures { λ r. ⌜ Wrote (now (out .entry)) 0 (now (out .exit)) r (searchText (tableOf (drop 4 (now (input .entry)))) (programOutcome (now (input .entry)))) ⌝ }
+{
+    let job = word_at(input, 0);
+    if kind(job) != 5 {
+        return put_refusal(out, 10, 0);
+    }
+    if field_q(job) != 0 {
+        return put_refusal(out, 10, 0);
+    }
+    put_search(out, &input[4..], field_p(job), field_r(job))
+}
+
+// Writes what is printed for a table, kits and a percentage: the search from the fully open plan. The buffer is `print`'s.
+fn put_search(out: &mut [u8], file: &[u8], budget: u32, percent: u32) -> usize
+    requires { ⌜ 1024 ≤ length (now out) ⌝ }
+    ensures { λ r. ⌜ Wrote (now (out .entry)) 0 (now (out .exit)) r (searchText (tableOf (now (file .entry))) (jobOutcome (now (file .entry)) budget percent)) ⌝ }
+{
+    let t = match read(file) {
+        ReadAnswer::Table(t) => t,
+        ReadAnswer::Refused(r) => return put_refusal(out, r.number, r.place),
+    };
+    let start = Plan::fully_open(t.choices);
+    let marks = start.marks;
+    let n = start.count;
+    let mut plan = [0u8; 20];
+    let found = match search(file, &marks[..n], budget, percent, &mut plan[..n]) {
+        SearchAnswer::Found(f) => f,
+        SearchAnswer::Refused(r) => return put_refusal(out, r.number, r.place),
+    };
+    put_plan(
+        out,
+        t.choices,
+        t.scale,
+        found.score,
+        found.visits,
+        &plan[..n],
+    )
+}

@@ -1,0 +1,7 @@
+// What the program `plan` prints for the bytes that it reads, as text in a buffer.
+mod decimal;
+mod job;
+mod text;
+
+pub use job::Text;
+pub use job::print;

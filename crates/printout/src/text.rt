@@ -1,0 +1,124 @@
+// The lines of the printout. Each function writes from a place on and answers the place after what it has written; whoever
+// calls has the room that it asks for.
+use crate::decimal::put_decimal;
+use diagram::Plan;
+ghost use mathlib.Core.Path.{_≡_};
+ghost use Prim.Native.Nat.{_+_, _*_, _≤_, _<_};
+ghost use lib.ListN.{length};
+ghost use Rattle.diagram.specs.Plans as plans;
+ghost use Rattle.diagram.specs.Printout.{refusalText, markLines};
+ghost use Rattle.printout.specs.Writing.{Wrote, tableText, foundText, markText, fullText};
+
+// Writes a word.
+pub fn put_word(out: &mut [u8], at: usize, word: &[u8]) -> usize
+    requires { ⌜ at + length (now word) ≤ length (now out) ⌝ }
+    ensures { λ r. ⌜ Wrote (now (out .entry)) at (now (out .exit)) r (now (word .entry)) ⌝ }
+{
+    let n = word.len();
+    let mut i = 0;
+    while i < n {
+        out[at + i] = word[i];
+        i += 1;
+    }
+    at + n
+}
+
+// Writes the line of a refusal.
+pub fn put_refusal(out: &mut [u8], number: u8, place: usize) -> usize
+    requires { ⌜ 50 ≤ length (now out) ⌝ }
+    ensures { λ r. ⌜ Wrote (now (out .entry)) 0 (now (out .exit)) r (refusalText number place) ⌝ }
+{
+    let a = put_word(out, 0, b"refused ");
+    let b = put_decimal(out, a, number as u64);
+    let c = put_word(out, b, b" ");
+    let d = put_decimal(out, c, place as u64);
+    put_word(out, d, b"\n")
+}
+
+// Writes the three parts of a plan's printout.
+pub fn put_plan(
+    out: &mut [u8],
+    choices: usize,
+    scale: u64,
+    score: u64,
+    visits: u64,
+    plan: &[u8],
+) -> usize
+    requires { ⌜ (length (now plan) ≤ 20) × (700 ≤ length (now out)) ⌝ }
+    ensures { λ r. ⌜ Wrote (now (out .entry)) 0 (now (out .exit)) r (fullText choices scale score visits (now (plan .entry))) ⌝ }
+{
+    let a = put_table(out, choices as u64, scale);
+    let b = put_found(out, a, taken_count(plan), score, visits);
+    put_marks(out, b, plan)
+}
+
+// Writes the line of the table's numbers.
+fn put_table(out: &mut [u8], choices: u64, scale: u64) -> usize
+    requires { ⌜ 60 ≤ length (now out) ⌝ }
+    ensures { λ r. ⌜ Wrote (now (out .entry)) 0 (now (out .exit)) r (tableText choices scale) ⌝ }
+{
+    let a = put_word(out, 0, b"choices ");
+    let b = put_decimal(out, a, choices);
+    let c = put_word(out, b, b" scale ");
+    let d = put_decimal(out, c, scale);
+    put_word(out, d, b"\n")
+}
+
+// Writes the line of the plan's cost, its score and the visits.
+fn put_found(out: &mut [u8], at: usize, cost: u64, score: u64, visits: u64) -> usize
+    requires { ⌜ at + 90 ≤ length (now out) ⌝ }
+    ensures { λ r. ⌜ Wrote (now (out .entry)) at (now (out .exit)) r (foundText cost score visits) ⌝ }
+{
+    let a = put_word(out, at, b"kits ");
+    let b = put_decimal(out, a, cost);
+    let c = put_word(out, b, b" score ");
+    let d = put_decimal(out, c, score);
+    let e = put_word(out, d, b" visits ");
+    let f = put_decimal(out, e, visits);
+    put_word(out, f, b"\n")
+}
+
+// Writes a line for each choice: its number and its mark.
+fn put_marks(out: &mut [u8], at: usize, plan: &[u8]) -> usize
+    requires { ⌜ (length (now plan) ≤ 20) × (at + 26 * length (now plan) ≤ length (now out)) ⌝ }
+    ensures { λ r. ⌜ Wrote (now (out .entry)) at (now (out .exit)) r (markLines 0 (now (plan .entry))) ⌝ }
+{
+    let n = plan.len();
+    let mut end = at;
+    let mut i = 0;
+    while i < n {
+        end = put_mark(out, end, i, plan[i]);
+        i += 1;
+    }
+    end
+}
+
+// Writes the line of one choice.
+fn put_mark(out: &mut [u8], at: usize, choice: usize, mark: u8) -> usize
+    requires { ⌜ at + 26 ≤ length (now out) ⌝ }
+    ensures { λ r. ⌜ Wrote (now (out .entry)) at (now (out .exit)) r (markText choice mark) ⌝ }
+{
+    let a = put_decimal(out, at, choice as u64);
+    let b = if mark == Plan::TAKEN {
+        put_word(out, a, b" take")
+    } else {
+        put_word(out, a, b" left")
+    };
+    put_word(out, b, b"\n")
+}
+
+// How many lines a plan takes.
+fn taken_count(plan: &[u8]) -> u64
+    requires { ⌜ length (now plan) ≤ 20 ⌝ }
+    ensures { λ r. ⌜ r ≡ plans.cost (now (plan .entry)) ⌝ }
+{
+    let mut count = 0;
+    let mut i = 0;
+    while i < plan.len() {
+        if plan[i] == Plan::TAKEN {
+            count += 1;
+        }
+        i += 1;
+    }
+    count
+}
