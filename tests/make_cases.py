@@ -2,7 +2,7 @@
 """Writes the input of the test program `cases` and what it has to write, the latter by oracle.py. Run it in this folder."""
 import random
 
-from oracle import (bytes_of, fields, read, Refused, scored_ways, show_filter, show_read, show_score, show_search, show_sweep, word)
+from oracle import (bytes_of, fields, printout, read, Refused, scored_ways, show_filter, show_read, show_score, show_search, show_sweep, word)
 
 A = [0x11002000, 0x20000000, 0x30400802, 0x20800000, 0x30C0300A, 0x40C00800, 0x40801000, 0x40400803, 0x40002003]
 B = [0x10801000, 0x20000000, 0x3040380A, 0x40400800, 0x40001000]
@@ -70,6 +70,12 @@ def searches(label, data, plan, jobs, size=None):
     for kits, percent in jobs:
         case(f"{label}, kits {kits}, {percent}", "p", text_of(data, marks_of(plan), f"{size}, {percent}, {kits}"),
              show_search(data, plan, kits, percent, size, ways))
+
+
+def runs(label, data):
+    """A job of the program: all bytes of its standard input. What it prints stands on lines of its own."""
+    data = file_of(data)
+    case(label, "j", text_of(data), "\n" + printout(data))
 
 
 def choice(p):
@@ -429,6 +435,42 @@ for i in range(100):
     search_some(f"made {i}", made(rng.randint(1, 9), rng.randint(1, 16)))
 for i in range(100):
     search_some(f"shared {i}", layered(rng.randint(3, 10), rng.randint(4, 24)))
+
+note("Jobs of the program, first the printed one")
+job = [0x50400032]
+runs("job A", job + A)
+for n in range(0, 44):
+    runs(f"job A, {n} bytes", bytes_of(job + A)[:n])
+for w in (0x40400032, 0x60400032, 0x00400032, 0x50400832, 0x507FF832, 0x50600032):
+    runs(f"job word {w:08x}", [w] + A)
+    runs(f"job word {w:08x} and no table", [w])
+note("10 before the table, the table before 23, 23 before 24, 24 before 32")
+runs("10 and 11", bytes_of([0x40400032]) + b"\0")
+runs("11 and 23 and 24", bytes_of([0x5FC007FF]) + b"\0")
+for label, data in bad:
+    runs(f"{label} and 23 and 24", bytes_of([0x5FC007FF]) + file_of(data))
+for kits in (0, 1, 2, 20, 21, 63):
+    for percent in (0, 50, 60, 79, 80, 100, 101, 2047):
+        runs(f"kits {kits}, percent {percent}", [word(5, kits, 0, percent)] + A)
+        runs(f"kits {kits}, percent {percent}, B", [word(5, kits, 0, percent)] + B)
+note("The longest inputs")
+large = table([choice(i) if i % 6 == 0 else chance(i, 1, 1) for i in range(60)], deep)
+runs("1264 bytes, the largest table", job + large)
+runs("1265 bytes", bytes_of(job + large) + b"\0")
+runs("1266 bytes", bytes_of(job + large) + b"\0\0")
+runs("1268 bytes", job + large + [0])
+runs("1300 bytes, no job word", bytes(1300))
+runs("1260 bytes, a record missing", (job + large)[:-1])
+note("No choices, twenty choices, the largest scale")
+runs("no choice", [word(5, 0, 0, 29)] + table([chance(0, 3, 10)], last))
+runs("no choice, 32", [word(5, 0, 0, 30)] + table([chance(0, 3, 10)], last))
+runs("twenty in a row", [word(5, 20, 0, 0)] + twenty)
+runs("ten pairs", [word(5, 2, 0, 0)] + pairs)
+runs("2^56", [word(5, 20, 0, 97)] + chain)
+for i in range(60):
+    runs(f"job, made {i}", [word(5, rng.randint(0, 4), 0, rng.randint(0, 100))] + made(rng.randint(1, 9), rng.randint(1, 16)))
+for i in range(60):
+    runs(f"job, shared {i}", [word(5, rng.randint(0, 4), 0, rng.randint(0, 100))] + layered(rng.randint(3, 10), rng.randint(4, 24)))
 
 with open("../crates/cases/stdin", "w") as out:
     out.write("\n".join(lines) + "\n")

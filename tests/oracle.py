@@ -124,7 +124,8 @@ def score(table, plan):
     for line, i in enumerate(table.choices):
         assignment[i] = plan[line] == 1
     root, total = len(table.records) + 1, 0
-    for values in product([False, True], repeat=len(chances)):
+    ways = [[holds for holds, x in ((False, b - a), (True, a)) if x] for a, b in (table.variables[i] for i in chances)]
+    for values in product(*ways):  # all settlings but those of weight 0
         weight = 1
         for i, holds in zip(chances, values):
             a, b = table.variables[i]
@@ -281,6 +282,32 @@ def show_search(data, plan, kits, percent, size, ways=None):
         return f" score {x} visits {visits}, plan{numbers(held)}"
     except Refused as r:
         return f" refused {r.number} {r.place}, plan{numbers(held)}"
+
+
+def printout(data):
+    """What the program prints for the bytes on its standard input."""
+    data = data[:1265]
+    try:
+        if len(data) < 4:
+            raise Refused(10, 0)
+        kind, kits, q, percent = fields(words_of(data)[0])
+        if kind != 5 or q:
+            raise Refused(10, 0)
+        t = read(data[4:])
+        if percent > 100:
+            raise Refused(23, 0)
+        if kits > 20:
+            raise Refused(24, 0)
+        plan = [0] * len(t.choices)
+        ways = scored_ways(t, plan)
+        scores = {tuple(way): x for way, x in ways}
+        visits, kept = visits_of(t, plan, kits, percent, lambda way: scores[tuple(way)])
+        best, x = best_of(t, kits, percent, ways)
+        assert kept == [best, x]
+        text = f"choices {len(plan)} scale {t.scale}\nkits {best.count(1)} score {x} visits {visits}\n"
+        return text + "".join(f"{i} {'take' if m == 1 else 'left'}\n" for i, m in enumerate(best))
+    except Refused as r:
+        return f"refused {r.number} {r.place}\n"
 
 
 def show_score(data, plan):
