@@ -1,1 +1,3 @@
 -- Laws of the printout.
+pub mod Writes
+pub mod Digits

@@ -1,45 +1,49 @@
+-- `digit_count` meets its contract. The loop's invariant: the number has at least i digits. The measure is the number of powers left. Assumes nothing.
+use Prim.Native.Nat.{_-_, _≤_}
+use native.Mathlib.Omega.{arith}
+use lib.ListN.{length}
+use Rattle.diagram.specs.Table.{sequence}
+use Rattle.diagram.specs.Printout.{decimal}
+use Rattle.printout.proofs.Digits.{powers, power-at, count-some, counted-here, counted-next, counted-all}
 use Rattle.printout.proofs.decimal.digit_count.Statement.{statement}
 use Rattle.printout.proofs.decimal.digit_count.Tie as tie
-use Rattle.printout.proofs.decimal.digit_count.Reads as reads
-use Rattle.printout.proofs.decimal.digit_count.Lts as lts
 
 abbrev Inv-loop : tie.InvT-loop
-Inv-loop n i₀ i = ?
+Inv-loop n i₀ i = (1 ≤ i) × (i ≤ 20) × (i ≤ length (decimal n))
 
 abbrev μ-loop : tie.MeasureT-loop
-μ-loop n i₀ i = ?
+μ-loop n i₀ i = 20 - i
 
--- src/decimal.rt:52:5
 loop-holds : tie.Need-loop-holds Inv-loop μ-loop
-loop-holds c = ?
+loop-holds c = (omega arith, omega arith, count-some (c .args .n))
 
--- src/decimal.rt:53:16
 mul-if1 : tie.Need-mul-if1 Inv-loop μ-loop
-mul-if1 c = ?
+mul-if1 c = omega arith
 
--- src/decimal.rt:53:16
 array-read-if1 : tie.Need-array-read-if1 Inv-loop μ-loop
-array-read-if1 c = ?
+array-read-if1 c = omega arith
 
--- src/decimal.rt:54:13
 returns : tie.Need-returns Inv-loop μ-loop
-returns c = ?
+unfolding powers sequence
+returns c =
+    let at = c .before .before .loop in
+    (counted-here (c .before .before .before .args .n) (at .i) (power-at (at .i) (omega arith)) (c .if1 .taken) (omega arith) (at .inv .2), omega arith, omega arith)
 
--- src/decimal.rt:56:9
 add-i : tie.Need-add-i Inv-loop μ-loop
-add-i c = ?
+add-i c = omega arith
 
--- src/decimal.rt:52:5
 loop-less : tie.Need-loop-less Inv-loop μ-loop
-loop-less c = ?
+loop-less c = omega arith
 
--- src/decimal.rt:52:5
 loop-again : tie.Need-loop-again Inv-loop μ-loop
-loop-again c = ?
+unfolding powers sequence
+loop-again c =
+    let at = c .before .before .loop in
+    (omega arith, omega arith, counted-next (c .before .before .before .args .n) (at .i) (power-at (at .i) (omega arith)) (c .if1 .left))
 
--- src/decimal.rt:48:1
 returns-2 : tie.Need-returns-2 Inv-loop μ-loop
-returns-2 c = ?
+returns-2 c =
+    (counted-all (c .before .before .args .n) (c .before .loop .i) (omega arith) (omega arith) (c .before .loop .inv .2), omega arith, omega arith)
 
 pub digit-count-spec : {M : Type 1} → statement M
 digit-count-spec =

@@ -1,67 +1,60 @@
+-- `put_decimal` meets its contract. The loop's invariant: the first i digits are written. The measure is the number of digits left. Assumes nothing.
+use Prim.Native.Nat.{_-_, _≤_}
+use native.Mathlib.Omega.{arith}
+use borrow.Author.Needs.{needs}
+use Rattle.diagram.specs.Printout.{decimal}
+use Rattle.printout.proofs.Digits.{digit-written}
+use Rattle.printout.proofs.Writes.{Writing, writing-start, writing-next, writing-end}
 use Rattle.printout.proofs.decimal.put_decimal.Statement.{statement}
 use Rattle.printout.proofs.decimal.put_decimal.Tie as tie
-use Rattle.printout.proofs.decimal.put_decimal.Reads as reads
-use Rattle.printout.proofs.decimal.put_decimal.Lts as lts
-use Rattle.printout.proofs.decimal.digit.Reads as digit-reads
-use Rattle.printout.proofs.decimal.digit_count.Reads as digit-count-reads
 
 abbrev Inv-loop : tie.InvT-loop
-Inv-loop out₀ at n count i₀ out i = ?
+Inv-loop out₀ at n count i₀ out i = (i ≤ count) × Writing out₀ at (decimal n) out i
 
 abbrev μ-loop : tie.MeasureT-loop
-μ-loop out₀ at n count i₀ out i = ?
+μ-loop out₀ at n count i₀ out i = count - i
 
--- src/decimal.rt:38:9
 digit-count-requires : tie.Need-digit-count-requires Inv-loop μ-loop
-digit-count-requires c κs = ?
+digit-count-requires c κs = search needs
 
--- src/decimal.rt:40:5
 loop-holds : tie.Need-loop-holds Inv-loop μ-loop
-loop-holds c = ?
+loop-holds c = (omega arith, writing-start)
 
--- src/decimal.rt:41:32
 sub-digit : tie.Need-sub-digit Inv-loop μ-loop
-sub-digit c = ?
+sub-digit c = omega arith
 
--- src/decimal.rt:41:32
 sub-digit-2 : tie.Need-sub-digit-2 Inv-loop μ-loop
-sub-digit-2 c = ?
+sub-digit-2 c = omega arith
 
--- src/decimal.rt:41:23
 digit-requires : tie.Need-digit-requires Inv-loop μ-loop
-digit-requires c κs = ?
+digit-requires c κs = omega arith
 
--- src/decimal.rt:41:13
 add-out : tie.Need-add-out Inv-loop μ-loop
-add-out c = ?
+add-out c = omega arith
 
--- src/decimal.rt:41:9
 slice-write-out : tie.Need-slice-write-out Inv-loop μ-loop
-slice-write-out c = ?
+slice-write-out c = omega arith
 
--- src/decimal.rt:42:9
 add-i : tie.Need-add-i Inv-loop μ-loop
-add-i c = ?
+add-i c = omega arith
 
--- src/decimal.rt:40:5
 loop-less : tie.Need-loop-less Inv-loop μ-loop
-loop-less c = ?
+loop-less c = omega arith
 
--- src/decimal.rt:40:5
 loop-again : tie.Need-loop-again Inv-loop μ-loop
-loop-again c = ?
+loop-again c =
+    let counted = c .before .before .before .digit-count in
+    let here = c .before .before .loop in
+    (omega arith, writing-next (here .inv .1) (omega arith) (omega arith) (digit-written _ (here .i) (counted .result) (c .digit .ensures) (counted .ensures .0) (omega arith)))
 
--- src/decimal.rt:44:5
 add-result : tie.Need-add-result Inv-loop μ-loop
-add-result c = ?
+add-result c = omega arith
 
--- src/decimal.rt:34:1
 same-length : tie.Need-same-length Inv-loop μ-loop
-same-length c = ?
+same-length c = c .before .loop .inv .1 .size
 
--- src/decimal.rt:34:1
 returns : tie.Need-returns Inv-loop μ-loop
-returns c = ?
+returns c = writing-end (c .before .loop .inv .1) (c .before .before .digit-count .ensures .0) (omega arith) (omega arith)
 
 pub put-decimal-spec : {M : Type 1} → statement M
 put-decimal-spec =

@@ -1,53 +1,47 @@
+-- `put_word` meets its contract. The loop's invariant: the first i bytes of the word are written. The measure is the number of bytes left. Assumes
+-- nothing.
+use Prim.Native.Nat.{_-_, _≤_}
+use native.Mathlib.Omega.{arith}
+use mathlib.Core.Path.{refl}
+use Rattle.printout.proofs.Writes.{Writing, writing-start, writing-next, writing-end}
 use Rattle.printout.proofs.text.put_word.Statement.{statement}
 use Rattle.printout.proofs.text.put_word.Tie as tie
-use Rattle.printout.proofs.text.put_word.Reads as reads
-use Rattle.printout.proofs.text.put_word.Lts as lts
 
 abbrev Inv-loop : tie.InvT-loop
-Inv-loop out₀ at word n i₀ out i = ?
+Inv-loop out₀ at word n i₀ out i = (i ≤ n) × Writing out₀ at word out i
 
 abbrev μ-loop : tie.MeasureT-loop
-μ-loop out₀ at word n i₀ out i = ?
+μ-loop out₀ at word n i₀ out i = n - i
 
--- src/text.rt:19:5
 loop-holds : tie.Need-loop-holds Inv-loop μ-loop
-loop-holds c = ?
+loop-holds c = (omega arith, writing-start)
 
--- src/text.rt:20:23
 shared-slice-read-out : tie.Need-shared-slice-read-out Inv-loop μ-loop
-shared-slice-read-out c = ?
+shared-slice-read-out c = omega arith
 
--- src/text.rt:20:13
 add-out : tie.Need-add-out Inv-loop μ-loop
-add-out c = ?
+add-out c = omega arith
 
--- src/text.rt:20:9
 slice-write-out : tie.Need-slice-write-out Inv-loop μ-loop
-slice-write-out c = ?
+slice-write-out c = omega arith
 
--- src/text.rt:21:9
 add-i : tie.Need-add-i Inv-loop μ-loop
-add-i c = ?
+add-i c = omega arith
 
--- src/text.rt:19:5
 loop-less : tie.Need-loop-less Inv-loop μ-loop
-loop-less c = ?
+loop-less c = omega arith
 
--- src/text.rt:19:5
 loop-again : tie.Need-loop-again Inv-loop μ-loop
-loop-again c = ?
+loop-again c = (omega arith, writing-next (c .before .before .loop .inv .1) (omega arith) (omega arith) refl)
 
--- src/text.rt:23:5
 add-result : tie.Need-add-result Inv-loop μ-loop
-add-result c = ?
+add-result c = omega arith
 
--- src/text.rt:13:1
 same-length : tie.Need-same-length Inv-loop μ-loop
-same-length c = ?
+same-length c = c .before .loop .inv .1 .size
 
--- src/text.rt:13:1
 returns : tie.Need-returns Inv-loop μ-loop
-returns c = ?
+returns c = writing-end (c .before .loop .inv .1) refl (omega arith) (omega arith)
 
 pub put-word-spec : {M : Type 1} → statement M
 put-word-spec =
