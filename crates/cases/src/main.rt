@@ -1,9 +1,10 @@
 // Runs the services on the cases of standard input, a line each, and writes what they answer.
 //
-// A line is a label, a colon, a letter for the service (r reads, s scores, w sweeps, f filters, p plans by the search, j runs a job), the
-// file's bytes in hexadecimal, after a bar the plan's marks, a digit each, and after another bar the size of the lent buffer
-// and, each after a comma, the percentage and the kits; spaces count for nothing. The label is written back, then the answer, and then the lent buffer, in
-// which every place is 7 to begin with. A line without a colon is written back as it is.
+// A line is a label, a colon, a letter for the service (r reads, s scores, w sweeps, f filters, p plans by the search, j runs
+// a job of the program), the file's bytes in hexadecimal, after a bar the plan's marks, a digit each, and after another bar
+// the size of the lent buffer and, each after a comma, the percentage and the kits; spaces count for nothing. The label is
+// written back, then the answer, and then the lent buffer, in which every place is 7 to begin with; of a job what it prints.
+// A line without a colon is written back as it is.
 use diagram::Refusal;
 use reading::ReadAnswer;
 use scoring::ScoreAnswer;
