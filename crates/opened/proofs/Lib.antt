@@ -1,0 +1,2 @@
+-- Laws of openings.
+pub mod Openings

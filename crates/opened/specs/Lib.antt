@@ -1,0 +1,2 @@
+-- What an opened table stands for.
+pub mod Answer
