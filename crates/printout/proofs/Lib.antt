@@ -1,1 +1,2 @@
 -- Laws of the printout.
+pub mod Chains
