@@ -1,2 +1,3 @@
 -- Laws of the printout.
 pub mod Chains
+pub mod Texts
