@@ -50,6 +50,11 @@ module _ {a b : List ℕ} {i j : ℕ} where
 -- ---------------------------------------------------------------------------
 -- One line after the other
 
+-- no line is written at the start
+pub lines-start : {a : List ℕ} {i : ℕ} → Wrote a i a i (markLines 0 [])
+unfolding markLines
+lines-start = record { text = rw append-nil refl; count = omega arith; size = refl }
+
 -- the lines of the marks, and of one mark more
 lines-more : (i : ℕ) (p : List ℕ) (m : ℕ) → markLines i (p ++ m ∷ []) ≡ markLines i p ++ markText (i + length p) m
 unfolding markLines markText
