@@ -10,8 +10,8 @@ use lib.ListN.{length, getD, take, length-append}
 use lib.Seq.{take-suc, length-take-le, take-length}
 use borrow.Author.Tests.{eq-eqb, ne-eqb}
 use Rattle.diagram.specs.Score.{isTaken}
-use Rattle.diagram.specs.Printout.{decimal, takeWord, leftWord, line, markLines}
-use Rattle.printout.specs.Writing.{Wrote, markText}
+use Rattle.diagram.specs.Printout.{decimal, choicesWord, scaleWord, kitsWord, scoreWord, visitsWord, takeWord, leftWord, line, markLines}
+use Rattle.printout.specs.Writing.{Wrote, tableText, foundText, markText}
 use Rattle.printout.proofs.Chains.{wrote-then, decimal-few}
 
 -- ---------------------------------------------------------------------------
@@ -35,6 +35,17 @@ module _ {a b : List ℕ} {i j : ℕ} where
   -- " left" is the word of any other
   pub wrote-left : {m : ℕ} → (m ≡ 1 → ⊥) → Wrote a i b j leftWord → Wrote a i b j (markWord m)
   wrote-left {m} f w = rw (ne-eqb m 1 f) w
+
+  -- where the line of the table's numbers ends, at the most
+  pub table-ends : {n m : ℕ} → Wrote a i b j (tableText n m) → n < 2 ^ 64 → m < 2 ^ 64 → j ≤ i + 56
+  unfolding tableText choicesWord scaleWord line
+  table-ends {n} {m} w h k = omega (arith, simp length-append at (w .count), decimal-few n h, decimal-few m k)
+
+  -- where the line of the cost, the score and the visits ends, at the most
+  pub found-ends : {n m v : ℕ} → Wrote a i b j (foundText n m v) → n < 2 ^ 64 → m < 2 ^ 64 → v < 2 ^ 64 → j ≤ i + 81
+  unfolding foundText kitsWord scoreWord visitsWord line
+  found-ends {n} {m} {v} w h k l =
+      omega (arith, simp length-append at (w .count), decimal-few n h, decimal-few m k, decimal-few v l)
 
   -- where a number and the word of a mark end, at the most
   pub word-ends : (m : ℕ) {n : ℕ} → Wrote a i b j (decimal n ++ markWord m) → n < 2 ^ 64 → j ≤ i + 25
