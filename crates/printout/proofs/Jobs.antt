@@ -1,0 +1,73 @@
+-- What is printed for a job, from what reading and the search answer, and from what the job word says. Assumes nothing.
+use Prim.Native.Nat.{ℕ, zero, suc, _≤_, min}
+use native.Mathlib.Omega.{arith}
+use mathlib.Core.Path.{_≡_, refl, ap, sym, _∙_}
+use mathlib.Core.List.{List, _∷_}
+use lib.ListN.{length, take, replicate}
+use Rattle.diagram.specs.Table.{tableOf, choiceCount, scale}
+use Rattle.diagram.specs.Checks.{searchChecks}
+use Rattle.diagram.specs.Services.{refused, answered, Reading, reading, readOutcome, searchOutcome}
+use Rattle.diagram.specs.Printout.{refusalText, planText, searchText, jobOutcome}
+use Rattle.diagram.specs.declared.refusal.Refusal.{Refusal}
+use Rattle.diagram.proofs.Checked.{read-refuses}
+use Rattle.reading.specs.declared.answer.Summary.{Summary}
+use Rattle.reading.specs.declared.answer.ReadAnswer.{ReadAnswer}
+use Rattle.reading.specs.Answer.{outcomeOf}
+use Rattle.reading.proofs.Accepted.{passed-choices}
+use Rattle.reading.proofs.Outcomes.{table-passed, table-choices}
+use Rattle.sweep.proofs.Requesting.{numbers, table-answered}
+use Rattle.search.specs.declared.answer.Finding.{Finding}
+use Rattle.search.specs.declared.answer.SearchAnswer.{SearchAnswer}
+use Rattle.search.specs.declared.answer.SearchAnswer.the-variants.{Found, Refused}
+use Rattle.search.specs.Answer.{searchOf}
+use Rattle.printout.specs.Writing.{tableText, foundText, fullText}
+
+-- ---------------------------------------------------------------------------
+-- The table
+
+module _ (s : List ℕ) {r : ReadAnswer} (promise : outcomeOf r ≡ readOutcome s) (t : Summary) (e : r ≡ ReadAnswer.Table t) where
+  -- a table that is read has at most 20 choices, so that none is cut off
+  pub choices-kept : {n : ℕ} → n ≡ min (t .choices) 20 → n ≡ choiceCount (tableOf s .variables)
+  choices-kept q = omega (arith, table-choices s promise t e, passed-choices (table-passed s promise t e))
+
+  pub choices-few : choiceCount (tableOf s .variables) ≤ 20
+  choices-few = passed-choices (table-passed s promise t e)
+
+  -- its scale is the one that reading answers
+  pub scale-read : t .scale ≡ scale (tableOf s)
+  unfolding reading
+  scale-read =
+      let answers = table-answered s promise t e in
+      let same : numbers t ≡ reading s = cc in
+      ap (λ (x : Reading). x .scale) same
+
+-- the first lines of an open plan are open
+pub take-zeros : (n m : ℕ) → n ≤ m → _≡_ {A = List ℕ} (take n (replicate m 0)) (replicate n 0)
+take-zeros zero m h = refl
+take-zeros (suc n) zero h = absurd (omega arith)
+take-zeros (suc n) (suc m) h = ap (λ (l : List ℕ). 0 ∷ l) (take-zeros n m (omega arith))
+
+-- ---------------------------------------------------------------------------
+-- The search of a job
+
+module _ (s : List ℕ) (budget percent : ℕ) where
+  -- a table that reading refuses
+  pub job-unread : (n i : ℕ) → readOutcome s ≡ refused n i → searchText (tableOf s) (jobOutcome s budget percent) ≡ refusalText n i
+  unfolding jobOutcome searchOutcome searchChecks searchText
+  job-unread n i e = ap (searchText (tableOf s)) (read-refuses s _ _ n i e)
+
+  module _ (r : SearchAnswer) (out : List ℕ) {marks : List ℕ} {size : ℕ} (promise : searchOf r out ≡ searchOutcome s marks budget percent size) (zeros : marks ≡ replicate (choiceCount (tableOf s .variables)) 0) (long : size ≡ choiceCount (tableOf s .variables)) where
+    -- the search from the fully open plan is the job's
+    job-searched : searchOf r out ≡ jobOutcome s budget percent
+    unfolding jobOutcome
+    job-searched = promise ∙ rw (zeros, long) refl
+
+    -- a search that is refused
+    pub job-refused : (x : Refusal) → r ≡ Refused x → searchText (tableOf s) (jobOutcome s budget percent) ≡ refusalText (x .number) (x .place)
+    unfolding searchOf searchText
+    job-refused x e = rw (← job-searched, e) refl
+
+    -- a plan that is found
+    pub job-found : (f : Finding) → r ≡ Found f → {choices b : ℕ} → choices ≡ choiceCount (tableOf s .variables) → b ≡ scale (tableOf s) → searchText (tableOf s) (jobOutcome s budget percent) ≡ fullText choices b (f .score) (f .visits) out
+    unfolding searchOf searchText planText fullText tableText foundText
+    job-found f e ec eb = rw (← job-searched, e, ec, eb) refl
