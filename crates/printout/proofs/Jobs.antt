@@ -1,15 +1,19 @@
 -- What is printed for a job, from what reading and the search answer, and from what the job word says. Assumes nothing.
-use Prim.Native.Nat.{ℕ, zero, suc, _≤_, min}
+use Prim.Native.Nat.{ℕ, zero, suc, _/_, _≤_, min}
+use native.Mathlib.Decide.{decLt}
 use native.Mathlib.Omega.{arith}
 use mathlib.Core.Path.{_≡_, refl, ap, sym, _∙_}
 use mathlib.Core.List.{List, _∷_}
-use lib.ListN.{length, take, replicate}
+use mathlib.Core.Logic.{by-cases}
+use lib.ListN.{length, take, drop, replicate}
+use borrow.Author.Tests.{eq-eqb, ne-eqb, le-ltb}
+use Rattle.diagram.specs.Words.{wordAt, kind, fieldP, fieldQ, fieldR}
 use Rattle.diagram.specs.Table.{tableOf, choiceCount, scale}
-use Rattle.diagram.specs.Checks.{searchChecks}
+use Rattle.diagram.specs.Checks.{placeZero, jobFault, jobChecks, searchChecks}
 use Rattle.diagram.specs.Services.{refused, answered, Reading, reading, readOutcome, searchOutcome}
-use Rattle.diagram.specs.Printout.{refusalText, planText, searchText, jobOutcome}
+use Rattle.diagram.specs.Printout.{refusalText, planText, searchText, jobOutcome, programOutcome}
 use Rattle.diagram.specs.declared.refusal.Refusal.{Refusal}
-use Rattle.diagram.proofs.Checked.{read-refuses}
+use Rattle.diagram.proofs.Checked.{checked-passes, checked-stops, checked-end, read-refuses}
 use Rattle.reading.specs.declared.answer.Summary.{Summary}
 use Rattle.reading.specs.declared.answer.ReadAnswer.{ReadAnswer}
 use Rattle.reading.specs.Answer.{outcomeOf}
@@ -71,3 +75,34 @@ module _ (s : List ℕ) (budget percent : ℕ) where
     pub job-found : (f : Finding) → r ≡ Found f → {choices b : ℕ} → choices ≡ choiceCount (tableOf s .variables) → b ≡ scale (tableOf s) → searchText (tableOf s) (jobOutcome s budget percent) ≡ fullText choices b (f .score) (f .visits) out
     unfolding searchOf searchText planText fullText tableText foundText
     job-found f e ec eb = rw (← job-searched, e, ec, eb) refl
+
+-- ---------------------------------------------------------------------------
+-- The job word
+
+module _ (input : List ℕ) {w k : ℕ} (word : w ≡ wordAt input 0) (kinds : k ≡ kind w) where
+  -- kind 5 is of no word that is missing
+  pub job-there : k ≡ 5 → 4 ≤ length input
+  unfolding wordAt
+  job-there e =
+      by-cases (decLt (length input) 4)
+      (λ h. let none : w ≡ 0 = word ∙ rw (le-ltb 0 (length input / 4) (omega arith)) refl in absurd (omega arith))
+      (λ f. omega arith)
+
+  -- any other kind is refused
+  pub job-kind : (k ≡ 5 → ⊥) → programOutcome input ≡ refused 10 0
+  unfolding programOutcome jobChecks jobFault placeZero
+  job-kind f = checked-stops _ _ _ input 0 (rw (← word, ne-eqb (kind w) 5 (λ e. f (kinds ∙ e))) refl)
+
+  module _ {q : ℕ} (field : q ≡ fieldQ w) (five : k ≡ 5) where
+    -- so is any other Q than 0
+    pub job-field : (q ≡ 0 → ⊥) → programOutcome input ≡ refused 10 0
+    unfolding programOutcome jobChecks jobFault placeZero
+    job-field f = checked-stops _ _ _ input 0 (rw (← word, eq-eqb (kind w) 5 (sym kinds ∙ five), ne-eqb (fieldQ w) 0 (λ e. f (field ∙ e))) refl)
+
+    -- and else the table that follows is searched with P and R
+    pub job-taken : q ≡ 0 → {b p : ℕ} → b ≡ fieldP w → p ≡ fieldR w → programOutcome input ≡ jobOutcome (drop 4 input) b p
+    unfolding programOutcome jobChecks jobFault placeZero
+    job-taken e eb ep =
+        checked-passes _ _ _ input (rw (← word, eq-eqb (kind w) 5 (sym kinds ∙ five), eq-eqb (fieldQ w) 0 (sym field ∙ e)) refl)
+        ∙ checked-end _ input
+        ∙ rw (eb, ep, word) refl
