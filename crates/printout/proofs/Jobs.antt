@@ -11,7 +11,7 @@ use Rattle.diagram.specs.Words.{wordAt, kind, fieldP, fieldQ, fieldR}
 use Rattle.diagram.specs.Table.{tableOf, choiceCount, scale}
 use Rattle.diagram.specs.Checks.{placeZero, jobFault, jobChecks, searchChecks}
 use Rattle.diagram.specs.Services.{refused, answered, Reading, reading, readOutcome, searchOutcome}
-use Rattle.diagram.specs.Printout.{refusalText, planText, searchText, jobOutcome, programOutcome}
+use Rattle.diagram.specs.Printout.{refusalText, planText, searchText, jobOutcome, programOutcome, printout}
 use Rattle.diagram.specs.declared.refusal.Refusal.{Refusal}
 use Rattle.diagram.proofs.Checked.{checked-passes, checked-stops, checked-end, read-refuses}
 use Rattle.reading.specs.declared.answer.Summary.{Summary}
@@ -24,7 +24,7 @@ use Rattle.search.specs.declared.answer.Finding.{Finding}
 use Rattle.search.specs.declared.answer.SearchAnswer.{SearchAnswer}
 use Rattle.search.specs.declared.answer.SearchAnswer.the-variants.{Found, Refused}
 use Rattle.search.specs.Answer.{searchOf}
-use Rattle.printout.specs.Writing.{tableText, foundText, fullText}
+use Rattle.printout.specs.Writing.{Wrote, tableText, foundText, fullText}
 
 -- ---------------------------------------------------------------------------
 -- The table
@@ -106,3 +106,8 @@ module _ (input : List ℕ) {w k : ℕ} (word : w ≡ wordAt input 0) (kinds : k
         checked-passes _ _ _ input (rw (← word, eq-eqb (kind w) 5 (sym kinds ∙ five), eq-eqb (fieldQ w) 0 (sym field ∙ e)) refl)
         ∙ checked-end _ input
         ∙ rw (eb, ep, word) refl
+
+-- at most 1,265 bytes are read
+pub printed : (input : List ℕ) {read a b : List ℕ} {j : ℕ} → read ≡ take 1265 input → Wrote a 0 b j (searchText (tableOf (drop 4 read)) (programOutcome read)) → Wrote a 0 b j (printout input)
+unfolding printout
+printed input e w = rw e at w

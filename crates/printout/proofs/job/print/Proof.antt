@@ -1,30 +1,29 @@
+-- `print` meets its contract: what the job's bytes come to is written from the buffer's start. Assumes nothing.
+use native.Mathlib.Nat.{zero-add}
+use mathlib.Core.Path.{sym, _∙_}
+use lib.Seq.{length-take-le}
 use borrow.Author.Needs.{needs}
+use Rattle.printout.proofs.Chains.{wrote-within}
+use Rattle.printout.proofs.Jobs.{printed}
 use Rattle.printout.proofs.job.print.Statement.{statement}
 use Rattle.printout.proofs.job.print.Tie as tie
-use Rattle.printout.proofs.job.print.Reads as reads
-use Rattle.printout.proofs.job.print.Lts as lts
-use Rattle.printout.proofs.job.at_most_1265.Reads as at-most-1265-reads
-use Rattle.printout.proofs.job.put_job.Reads as put-job-reads
 
--- src/job.rt:33:9
 at-most-1265-requires : tie.Need-at-most-1265-requires
 at-most-1265-requires c κs = search needs
 
--- src/job.rt:34:25
 slice-aggregate-put-job : tie.Need-slice-aggregate-put-job
 slice-aggregate-put-job c = search needs
 
--- src/job.rt:34:41
 slice-aggregate-put-job-2 : tie.Need-slice-aggregate-put-job-2
-slice-aggregate-put-job-2 c = ?
+slice-aggregate-put-job-2 c = sym (length-take-le _ _ (c .before .before .at-most-1265 .ensures .0))
 
--- src/job.rt:34:9
 put-job-requires : tie.Need-put-job-requires
 put-job-requires c κs = search needs
 
--- src/job.rt:28:1
 returns : tie.Need-returns
-returns c = ?
+returns c =
+    let w = printed (c .before .before .before .before .before .before .args .input .now) (c .before .before .before .before .at-most-1265 .ensures .1) (c .before .put-job .ensures) in
+    (w .text, (w .count ∙ zero-add _, wrote-within w))
 
 pub print-spec : {M : Type 1} → statement M
 print-spec =
