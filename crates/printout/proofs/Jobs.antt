@@ -10,7 +10,7 @@ use borrow.Author.Tests.{eq-eqb, ne-eqb, le-ltb}
 use Rattle.diagram.specs.Words.{wordAt, kind, fieldP, fieldQ, fieldR}
 use Rattle.diagram.specs.Table.{tableOf, choiceCount, scale}
 use Rattle.diagram.specs.Checks.{placeZero, jobFault, jobChecks, searchChecks}
-use Rattle.diagram.specs.Services.{refused, answered, Reading, reading, readOutcome, searchOutcome}
+use Rattle.diagram.specs.Services.{refused, Reading, reading, readOutcome, searchOutcome}
 use Rattle.diagram.specs.Printout.{refusalText, planText, searchText, jobOutcome, programOutcome, printout}
 use Rattle.diagram.specs.declared.refusal.Refusal.{Refusal}
 use Rattle.diagram.proofs.Checked.{checked-passes, checked-stops, checked-end, read-refuses}
@@ -33,9 +33,6 @@ module _ (s : List ℕ) {r : ReadAnswer} (promise : outcomeOf r ≡ readOutcome 
   -- a table that is read has at most 20 choices, so that none is cut off
   pub choices-kept : {n : ℕ} → n ≡ min (t .choices) 20 → n ≡ choiceCount (tableOf s .variables)
   choices-kept q = omega (arith, table-choices s promise t e, passed-choices (table-passed s promise t e))
-
-  pub choices-few : choiceCount (tableOf s .variables) ≤ 20
-  choices-few = passed-choices (table-passed s promise t e)
 
   -- its scale is the one that reading answers
   pub scale-read : t .scale ≡ scale (tableOf s)

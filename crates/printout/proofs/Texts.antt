@@ -1,13 +1,13 @@
--- The lines of a plan's marks as they are written: the word of a mark, where its line ends, and one line after the other. Assumes nothing.
+-- Where the texts of the printout end at the most, the word of a mark, and the lines of the marks one after the other. Assumes nothing.
 use Prim.Native.Nat.{ℕ, suc, _+_, _≤_, _<_, _^_}
 use native.Mathlib.Nat.{add-zero, zero-add, add-suc, suc-add}
 use native.Mathlib.Numerals.{add-one}
 use native.Mathlib.Omega.{arith}
-use mathlib.Core.Path.{_≡_, refl}
+use mathlib.Core.Path.{_≡_, refl, ap}
 use mathlib.Core.Bool.{Bool, true, false, cond}
 use mathlib.Core.List.{List, [], _∷_, _++_, append-assoc, append-nil}
-use lib.ListN.{length, getD, take, length-append}
-use lib.Seq.{take-suc, length-take-le, take-length}
+use lib.ListN.{length, getD, take, length-append, length-take}
+use lib.Seq.{take-suc, length-take-le}
 use borrow.Author.Tests.{eq-eqb, ne-eqb}
 use Rattle.diagram.specs.Score.{isTaken}
 use Rattle.diagram.specs.Printout.{decimal, choicesWord, scaleWord, kitsWord, scoreWord, visitsWord, takeWord, leftWord, line, markLines}
@@ -15,51 +15,61 @@ use Rattle.printout.specs.Writing.{Wrote, tableText, foundText, markText
 use Rattle.printout.proofs.Chains.{wrote-then, decimal-few}
 
 -- ---------------------------------------------------------------------------
--- One line
-
 -- The word of a mark
+
+-- " take" or " left"
 abbrev pub markWord : ℕ → List ℕ
 markWord m = cond (isTaken m) takeWord leftWord
 
--- it has five letters
+module _ {a b : List ℕ} {i j m : ℕ} where
+  -- " take" is the word of a taken line
+  pub wrote-take : m ≡ 1 → Wrote a i b j takeWord → Wrote a i b j (markWord m)
+  wrote-take e w = rw (eq-eqb m 1 e) w
+
+  -- " left" is the word of any other
+  pub wrote-left : (m ≡ 1 → ⊥) → Wrote a i b j leftWord → Wrote a i b j (markWord m)
+  wrote-left f w = rw (ne-eqb m 1 f) w
+
+-- either has five letters
 word-length : (t : Bool) → length (cond t takeWord leftWord) ≡ 5
 unfolding takeWord leftWord
 word-length true = refl
 word-length false = refl
 
+-- ---------------------------------------------------------------------------
+-- Where a text ends
+
+-- what is written from the start ends within the buffer
+pub wrote-within : {a b : List ℕ} {j : ℕ} {x : List ℕ} → Wrote a 0 b j x → j ≤ length a
+wrote-within {b = b} {j} w = omega (arith, w .count, w .size, ap length (w .text), length-take j b)
+
 module _ {a b : List ℕ} {i j : ℕ} where
-  -- " take" is the word of a taken line
-  pub wrote-take : {m : ℕ} → m ≡ 1 → Wrote a i b j takeWord → Wrote a i b j (markWord m)
-  wrote-take {m} e w = rw (eq-eqb m 1 e) w
+  -- a number takes at most 20 places
+  pub number-ends : {n : ℕ} → Wrote a i b j (decimal n) → n < 2 ^ 64 → j ≤ i + 20
+  number-ends {n} w h = omega (arith, w .count, decimal-few n h)
 
-  -- " left" is the word of any other
-  pub wrote-left : {m : ℕ} → (m ≡ 1 → ⊥) → Wrote a i b j leftWord → Wrote a i b j (markWord m)
-  wrote-left {m} f w = rw (ne-eqb m 1 f) w
-
-  -- where the line of the table's numbers ends, at the most
+  -- the line of the table's numbers at most 56
   pub table-ends : {n m : ℕ} → Wrote a i b j (tableText n m) → n < 2 ^ 64 → m < 2 ^ 64 → j ≤ i + 56
   unfolding tableText choicesWord scaleWord line
   table-ends {n} {m} w h k = omega (arith, simp length-append at (w .count), decimal-few n h, decimal-few m k)
 
-  -- where the line of the cost, the score and the visits ends, at the most
+  -- the line of the cost, the score and the visits at most 81
   pub found-ends : {n m v : ℕ} → Wrote a i b j (foundText n m v) → n < 2 ^ 64 → m < 2 ^ 64 → v < 2 ^ 64 → j ≤ i + 81
   unfolding foundText kitsWord scoreWord visitsWord line
   found-ends {n} {m} {v} w h k l =
       omega (arith, simp length-append at (w .count), decimal-few n h, decimal-few m k, decimal-few v l)
 
-  -- where a number and the word of a mark end, at the most
+  -- a number and the word of a mark at most 25
   pub word-ends : (m : ℕ) {n : ℕ} → Wrote a i b j (decimal n ++ markWord m) → n < 2 ^ 64 → j ≤ i + 25
-  word-ends m {n} w h =
-      omega (arith, w .count, length-append (decimal n) (markWord m), word-length (isTaken m), decimal-few n h)
+  word-ends m {n} w h = omega (arith, simp length-append at (w .count), word-length (isTaken m), decimal-few n h)
 
-  -- where the line of a mark ends, at the most
+  -- and the line of the mark at most 26
   pub mark-ends : (m : ℕ) {n : ℕ} → Wrote a i b j (markText n m) → n < 2 ^ 64 → j ≤ i + 26
   unfolding markText line
-  mark-ends m {n} w h =
-      omega (arith, w .count, length-append (decimal n ++ markWord m) (10 ∷ []), length-append (decimal n) (markWord m), word-length (isTaken m), decimal-few n h)
+  mark-ends m {n} w h = omega (arith, simp length-append at (w .count), word-length (isTaken m), decimal-few n h)
 
 -- ---------------------------------------------------------------------------
--- One line after the other
+-- The lines of the marks
 
 -- no line is written at the start
 pub lines-start : {a : List ℕ} {i : ℕ} → Wrote a i a i (markLines 0 [])

@@ -1,7 +1,6 @@
--- `put_job` meets its contract: the job word's kind and Q decide, and kind 5 tells that it is there. Assumes nothing.
+-- `put_job` meets its contract: the job word's kind and Q decide, and kind 5 tells that the word is there. Assumes nothing.
 use Prim.Native.Nat.{_≤_}
-use mathlib.Core.Path.{_≡_, ap}
-use lib.ListN.{length, drop}
+use lib.ListN.{length}
 use borrow.Author.Needs.{needs}
 use borrow.Rule.Slice.PartAt.{part-to-end}
 use Rattle.diagram.specs.Printout.{searchText}
@@ -29,7 +28,9 @@ returns : tie.Need-returns
 unfolding searchText
 returns c =
     let input = c .before .before .before .before .before .before .before .before .before .args .input .now in
-    rw (job-kind input (c .before .before .before .before .before .before .word-at .ensures) (c .before .before .before .before .before .kind .ensures) (c .before .before .before .before .if1 .taken)) (c .before .before .put-refusal .ensures)
+    let word = c .before .before .before .before .before .before .word-at .ensures in
+    let kinds = c .before .before .before .before .before .kind .ensures in
+    rw (job-kind input word kinds (c .before .before .before .before .if1 .taken)) (c .before .before .put-refusal .ensures)
 
 field-q-requires : tie.Need-field-q-requires
 field-q-requires c κs = search needs
@@ -44,7 +45,10 @@ returns-2 : tie.Need-returns-2
 unfolding searchText
 returns-2 c =
     let input = c .before .before .before .before .before .before .before .before .before .before .before .args .input .now in
-    rw (job-field input (c .before .before .before .before .before .before .before .before .word-at .ensures) (c .before .before .before .before .before .before .before .kind .ensures) (c .before .before .before .before .before .field-q .ensures) (c .before .before .before .before .before .before .if1 .left) (c .before .before .before .before .if2 .taken)) (c .before .before .put-refusal2 .ensures)
+    let word = c .before .before .before .before .before .before .before .before .word-at .ensures in
+    let kinds = c .before .before .before .before .before .before .before .kind .ensures in
+    let field = c .before .before .before .before .before .field-q .ensures in
+    rw (job-field input word kinds field (c .before .before .before .before .before .before .if1 .left) (c .before .before .before .before .if2 .taken)) (c .before .before .put-refusal2 .ensures)
 
 sub-put-search : tie.Need-sub-put-search
 sub-put-search c = there (c .before .before)
@@ -70,7 +74,11 @@ same-length-3 c = search needs
 returns-3 : tie.Need-returns-3
 returns-3 c =
     let input = c .before .before .before .before .before .before .before .before .before .before .before .before .before .before .args .input .now in
-    rw (job-taken input (c .before .before .before .before .before .before .before .before .before .before .before .word-at .ensures) (c .before .before .before .before .before .before .before .before .before .before .kind .ensures) (c .before .before .before .before .before .before .before .before .field-q .ensures) (c .before .before .before .before .before .before .before .before .before .if1 .left) (c .before .before .before .before .before .before .before .if2 .left) (c .before .before .before .before .field-p .ensures) (c .before .before .before .field-r .ensures)) (rw (part-to-end input 4) at (c .before .before .put-search .ensures))
+    let word = c .before .before .before .before .before .before .before .before .before .before .before .word-at .ensures in
+    let kinds = c .before .before .before .before .before .before .before .before .before .before .kind .ensures in
+    let field = c .before .before .before .before .before .before .before .before .field-q .ensures in
+    let taken = job-taken input word kinds field (c .before .before .before .before .before .before .before .before .before .if1 .left) (c .before .before .before .before .before .before .before .if2 .left) (c .before .before .before .before .field-p .ensures) (c .before .before .before .field-r .ensures) in
+    rw taken (rw (part-to-end input 4) at (c .before .before .put-search .ensures))
 
 pub put-job-spec : {M : Type 1} → statement M
 put-job-spec =

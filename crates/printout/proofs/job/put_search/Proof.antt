@@ -1,9 +1,10 @@
--- `put_search` meets its contract: what reading or the search refuses is printed as that refusal, and else the plan that the search writes to the buffer. Assumes nothing.
+-- `put_search` meets its contract: what reading or the search refuses is printed as that refusal, and else the plan that the search has written to its
+-- buffer. Assumes nothing.
 use Prim.Native.Nat.{ℕ, _≤_}
 use native.Mathlib.Omega.{arith}
 use mathlib.Core.Path.{_≡_, ap, sym, _∙_}
-use mathlib.Core.List.{List}
-use lib.ListN.{length, take, replicate, length-append}
+use mathlib.Core.List.{_++_}
+use lib.ListN.{length, take, drop, replicate, length-append}
 use lib.Seq.{length-take-le, take-at}
 use borrow.Author.Needs.{needs}
 use Rattle.diagram.specs.Table.{tableOf, choiceCount}
@@ -16,11 +17,11 @@ use Rattle.printout.proofs.job.put_search.Tie as tie
 counted : (c : tie.After-fully-open) → c .fully-open .result .count ≡ choiceCount (tableOf (c .before .before .before .before .before .before .before .args .file .now) .variables)
 counted c = choices-kept _ (c .before .before .before .before .read .ensures) _ (c .before .before .t .given .1) (c .fully-open .ensures .1)
 
--- there are at most 20
+-- at most 20
 few : (c : tie.After-fully-open) → c .fully-open .result .count ≤ 20
 few c = omega (arith, c .fully-open .ensures .1)
 
--- every line of it is open
+-- and every line is open
 opened : (c : tie.After-fully-open) → let p = c .fully-open .result in take (p .count) (p .marks) ≡ replicate (choiceCount (tableOf (c .before .before .before .before .before .before .before .args .file .now) .variables)) 0
 opened c = rw (c .fully-open .ensures .0, ← counted c) (take-zeros _ 20 (few c))
 
@@ -31,6 +32,10 @@ lent c = length-take-le _ _ (few c)
 -- and so it has afterwards
 kept : (c : tie.After-search) → length (c .search .last .1 .1 .1 .1 .0) ≡ c .before .before .before .before .fully-open .result .count
 kept c = c .search .kept .1 .1 .1 .1 .0 ∙ lent (c .before .before .before .before)
+
+-- what is printed of the array is that buffer
+shown : (c : tie.After-search) → let n = c .before .before .before .before .fully-open .result .count in take n (c .search .last .1 .1 .1 .1 .0 ++ drop n (replicate 20 0)) ≡ c .search .last .1 .1 .1 .1 .0
+shown c = take-at _ _ _ (kept c)
 
 read-requires : tie.Need-read-requires
 read-requires c κs = search needs
@@ -61,7 +66,7 @@ array-share-prefix-marks c = omega (arith, few (c .before), ap length (c .before
 
 slice-aggregate-search : tie.Need-slice-aggregate-search
 slice-aggregate-search c =
-    let long : length (c .before .before .fully-open .result .marks) ≡ 20 = ap length (c .before .before .fully-open .ensures .0) in
+    let long = ap length (c .before .before .fully-open .ensures .0) in
     sym (length-take-le _ _ (omega (arith, few (c .before .before))))
 
 array-borrow-prefix-plan : tie.Need-array-borrow-prefix-plan
@@ -88,21 +93,21 @@ same-length-2 c = search needs
 returns-2 : tie.Need-returns-2
 returns-2 c =
     let start = c .before .before .before .before .before .before .before .before .before .before .before .before .before .before .before .before .before .before .before .args in
-    let found = c .before .before .before .before .before .before .before .before .search in
-    let is-open = opened (c .before .before .before .before .before .before .before .before .before .before .before .before) in
-    let sized = lent (c .before .before .before .before .before .before .before .before .before .before .before .before) ∙ counted (c .before .before .before .before .before .before .before .before .before .before .before .before) in
-    rw (job-refused (start .file .now) (start .budget) (start .percent) _ _ (found .ensures .0) is-open sized _ (c .before .before .before .before .before .r2 .given .1))
+    let open-plan = c .before .before .before .before .before .before .before .before .before .before .before .before in
+    let searched = c .before .before .before .before .before .before .before .before .search .ensures .0 in
+    rw (job-refused (start .file .now) (start .budget) (start .percent) _ _ searched (opened open-plan) (lent open-plan ∙ counted open-plan) _ (c .before .before .before .before .before .r2 .given .1))
     (c .before .before .put-refusal2 .ensures)
 
 array-share-prefix-plan : tie.Need-array-share-prefix-plan
 array-share-prefix-plan c = simp length-append (omega (arith, kept (c .before .before .before .before .before)))
 
 slice-aggregate-put-plan : tie.Need-slice-aggregate-put-plan
-slice-aggregate-put-plan c = rw (take-at (c .before .before .before .before .before .before .search .last .1 .1 .1 .1 .0) _ _ (kept (c .before .before .before .before .before .before))) (sym (kept (c .before .before .before .before .before .before)))
+slice-aggregate-put-plan c = rw (shown (c .before .before .before .before .before .before)) (sym (kept (c .before .before .before .before .before .before)))
 
 put-plan-requires : tie.Need-put-plan-requires
 put-plan-requires c κs =
-    rw (take-at (c .before .before .before .before .before .before .search .last .1 .1 .1 .1 .0) _ _ (kept (c .before .before .before .before .before .before))) (omega (arith, kept (c .before .before .before .before .before .before), few (c .before .before .before .before .before .before .before .before .before .before)), omega (arith, c .before .before .before .before .before .before .before .before .before .before .before .before .before .before .before .before .before .pre))
+    let start = c .before .before .before .before .before .before .before .before .before .before .before .before .before .before .before .before .before in
+    rw (shown (c .before .before .before .before .before .before)) (omega (arith, kept (c .before .before .before .before .before .before), few (c .before .before .before .before .before .before .before .before .before .before)), omega (arith, start .pre))
 
 same-length-3 : tie.Need-same-length-3
 same-length-3 c = search needs
@@ -110,13 +115,12 @@ same-length-3 c = search needs
 returns-3 : tie.Need-returns-3
 returns-3 c =
     let start = c .before .before .before .before .before .before .before .before .before .before .before .before .before .before .before .before .before .before .before .before .args in
-    let found = c .before .before .before .before .before .before .before .before .before .search in
-    let is-open = opened (c .before .before .before .before .before .before .before .before .before .before .before .before .before) in
-    let sized = lent (c .before .before .before .before .before .before .before .before .before .before .before .before .before) ∙ counted (c .before .before .before .before .before .before .before .before .before .before .before .before .before) in
     let read = c .before .before .before .before .before .before .before .before .before .before .before .before .before .before .before .before .before .read .ensures in
     let table = c .before .before .before .before .before .before .before .before .before .before .before .before .before .before .before .t .given .1 in
-    rw (job-found (start .file .now) (start .budget) (start .percent) _ _ (found .ensures .0) is-open sized _ (c .before .before .before .before .before .before .f .given .1) (table-choices _ read _ table) (scale-read _ read _ table))
-    (rw (take-at (c .before .before .before .before .before .before .before .before .before .search .last .1 .1 .1 .1 .0) _ _ (kept (c .before .before .before .before .before .before .before .before .before))) at (c .before .before .put-plan .ensures))
+    let open-plan = c .before .before .before .before .before .before .before .before .before .before .before .before .before in
+    let searched = c .before .before .before .before .before .before .before .before .before .search .ensures .0 in
+    rw (job-found (start .file .now) (start .budget) (start .percent) _ _ searched (opened open-plan) (lent open-plan ∙ counted open-plan) _ (c .before .before .before .before .before .before .f .given .1) (table-choices _ read _ table) (scale-read _ read _ table))
+    (rw (shown (c .before .before .before .before .before .before .before .before .before)) at (c .before .before .put-plan .ensures))
 
 pub put-search-spec : {M : Type 1} → statement M
 put-search-spec =

@@ -1,14 +1,14 @@
 -- `put_mark` meets its contract: the number, the word of the mark and the newline stand one after the other. Assumes nothing.
-use native.Mathlib.Omega.{arith}
 use Prim.Native.Nat.{_+_, _≤_}
+use native.Mathlib.Omega.{arith}
 use mathlib.Core.Path.{_∙_}
 use mathlib.Core.Logic.{⊎-elim}
 use mathlib.Core.List.{_++_}
 use borrow.Author.Needs.{needs}
 use Rattle.diagram.specs.Printout.{decimal, takeWord, leftWord, line}
 use Rattle.printout.specs.Writing.{Wrote, markText}
-use Rattle.printout.proofs.Chains.{wrote-then, number-ends}
-use Rattle.printout.proofs.Texts.{markWord, wrote-take, wrote-left, word-ends}
+use Rattle.printout.proofs.Chains.{wrote-then}
+use Rattle.printout.proofs.Texts.{number-ends, markWord, wrote-take, wrote-left, word-ends}
 use Rattle.printout.proofs.text.put_mark.Statement.{statement}
 use Rattle.printout.proofs.text.put_mark.Tie as tie
 

@@ -1,8 +1,7 @@
--- `put_marks` meets its contract. The loop's invariant: the lines of the first i marks are written, in at most 26 places each. The measure is the number of marks left. Assumes nothing.
+-- `put_marks` meets its contract. The loop's invariant: the lines of the first i marks are written, in at most 26 places each. The measure is the number
+-- of marks left. Assumes nothing.
 use Prim.Native.Nat.{_+_, _-_, _*_, _≤_, _<_, _^_}
-use native.Mathlib.Nat.{mul-zero, add-zero}
 use native.Mathlib.Omega.{arith}
-use mathlib.Core.Path.{_≡_, refl}
 use lib.ListN.{length, take}
 use lib.Seq.{take-all}
 use Rattle.diagram.specs.Printout.{markLines}

@@ -1,5 +1,5 @@
 -- `put_plan` meets its contract: its three parts stand one after the other, in at most 56, 81 and 520 places. Assumes nothing.
-use Prim.Native.Nat.{_+_, _≤_}
+use Prim.Native.Nat.{_≤_}
 use native.Mathlib.Omega.{arith}
 use borrow.Author.Needs.{needs}
 use Rattle.printout.specs.Writing.{fullText}
