@@ -1,3 +1,5 @@
 -- Laws of the printout.
 pub mod Writes
 pub mod Digits
+pub mod Texts
+pub mod Jobs

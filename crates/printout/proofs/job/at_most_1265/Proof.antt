@@ -1,14 +1,16 @@
+-- `at_most_1265` meets its contract: a shorter input is read whole. Assumes nothing.
+use native.Mathlib.Omega.{arith}
+use mathlib.Core.Path.{sym, _∙_}
+use lib.Seq.{take-all, take-length}
 use borrow.Author.Needs.{needs}
 use Rattle.printout.proofs.job.at_most_1265.Statement.{statement}
 use Rattle.printout.proofs.job.at_most_1265.Tie as tie
-use Rattle.printout.proofs.job.at_most_1265.Reads as reads
-use Rattle.printout.proofs.job.at_most_1265.Lts as lts
 
--- src/job.rt:39:1
 returns : tie.Need-returns
-returns c = ?
+returns c =
+    let input = c .before .args .input .now in
+    (omega arith, take-length input ∙ sym (take-all 1265 input (omega arith)))
 
--- src/job.rt:39:1
 returns-2 : tie.Need-returns-2
 returns-2 c = search needs
 

@@ -1,62 +1,72 @@
+-- `put_found` meets its contract: its seven texts stand one after the other, and each number takes at most 20 places. Assumes nothing.
+use Prim.Native.Nat.{_+_, _≤_}
+use native.Mathlib.Omega.{arith}
 use borrow.Author.Needs.{needs}
+use Rattle.diagram.specs.Printout.{kitsWord, scoreWord, visitsWord, line}
+use Rattle.printout.specs.Writing.{foundText}
+use Rattle.printout.proofs.Writes.{wrote-then}
+use Rattle.printout.proofs.Texts.{number-ends}
 use Rattle.printout.proofs.text.put_found.Statement.{statement}
 use Rattle.printout.proofs.text.put_found.Tie as tie
-use Rattle.printout.proofs.text.put_found.Reads as reads
-use Rattle.printout.proofs.text.put_found.Lts as lts
-use Rattle.printout.proofs.decimal.put_decimal.Reads as put-decimal-reads
-use Rattle.printout.proofs.text.put_word.Reads as put-word-reads
 
--- src/text.rt:72:31
+-- where the first number ends, at the most
+first-ends : (c : tie.After-put-decimal) → c .put-decimal .result ≤ c .before .before .before .before .before .before .before .before .args .at + 25
+first-ends c = omega (arith, number-ends (c .put-decimal .ensures) (c .before .before .before .before .before .before .before .before .fits .cost .fits))
+
+-- where the second number ends, at the most
+second-ends : (c : tie.After-put-decimal2) → c .put-decimal2 .result ≤ c .before .before .before .before .before .before .before .before .before .before .before .before .before .before .before .before .before .args .at + 52
+second-ends c = omega (arith, first-ends (c .before .before .before .before .before .before .before .before .before), number-ends (c .put-decimal2 .ensures) (c .before .before .before .before .before .before .before .before .before .before .before .before .before .before .before .before .before .fits .score .fits))
+
+-- where the third number ends, at the most
+third-ends : (c : tie.After-put-decimal3) → c .put-decimal3 .result ≤ c .before .before .before .before .before .before .before .before .before .before .before .before .before .before .before .before .before .before .before .before .before .before .before .before .before .before .args .at + 80
+third-ends c = omega (arith, second-ends (c .before .before .before .before .before .before .before .before .before), number-ends (c .put-decimal3 .ensures) (c .before .before .before .before .before .before .before .before .before .before .before .before .before .before .before .before .before .before .before .before .before .before .before .before .before .before .fits .visits .fits))
+
 slice-aggregate-put-word : tie.Need-slice-aggregate-put-word
 slice-aggregate-put-word c = search needs
 
--- src/text.rt:72:9
 put-word-requires : tie.Need-put-word-requires
 put-word-requires c κs = search needs
 
--- src/text.rt:73:9
 put-decimal-requires : tie.Need-put-decimal-requires
 put-decimal-requires c κs = search needs
 
--- src/text.rt:74:30
 slice-aggregate-put-word-2 : tie.Need-slice-aggregate-put-word-2
 slice-aggregate-put-word-2 c = search needs
 
--- src/text.rt:74:9
 put-word-requires-2 : tie.Need-put-word-requires-2
-put-word-requires-2 c κs = ?
+put-word-requires-2 c κs = omega (arith, first-ends (c .before .before .before .before))
 
--- src/text.rt:75:9
 put-decimal-requires-2 : tie.Need-put-decimal-requires-2
-put-decimal-requires-2 c κs = ?
+put-decimal-requires-2 c κs = omega (arith, first-ends (c .before .before .before .before .before .before .before .before))
 
--- src/text.rt:76:30
 slice-aggregate-put-word-3 : tie.Need-slice-aggregate-put-word-3
 slice-aggregate-put-word-3 c = search needs
 
--- src/text.rt:76:9
 put-word-requires-3 : tie.Need-put-word-requires-3
-put-word-requires-3 c κs = ?
+put-word-requires-3 c κs = omega (arith, second-ends (c .before .before .before .before))
 
--- src/text.rt:77:9
 put-decimal-requires-3 : tie.Need-put-decimal-requires-3
-put-decimal-requires-3 c κs = ?
+put-decimal-requires-3 c κs = omega (arith, second-ends (c .before .before .before .before .before .before .before .before))
 
--- src/text.rt:78:22
 slice-aggregate-put-word-4 : tie.Need-slice-aggregate-put-word-4
 slice-aggregate-put-word-4 c = search needs
 
--- src/text.rt:78:5
 put-word-requires-4 : tie.Need-put-word-requires-4
-put-word-requires-4 c κs = ?
+put-word-requires-4 c κs = omega (arith, third-ends (c .before .before .before .before))
 
--- src/text.rt:68:1
 same-length : tie.Need-same-length
 same-length c = search needs
 
--- src/text.rt:68:1
 returns : tie.Need-returns
-returns c = ?
+unfolding kitsWord scoreWord visitsWord line foundText
+returns c =
+    let a = c .before .before .before .before .before .before .before .before .before .before .before .before .before .before .before .before .before .before .before .before .before .before .before .before .before .before .before .before .before .put-word .ensures in
+    let b = wrote-then a (c .before .before .before .before .before .before .before .before .before .before .before .before .before .before .before .before .before .before .before .before .before .before .before .before .before .put-decimal .ensures) in
+    let d = wrote-then b (c .before .before .before .before .before .before .before .before .before .before .before .before .before .before .before .before .before .before .before .before .put-word2 .ensures) in
+    let e = wrote-then d (c .before .before .before .before .before .before .before .before .before .before .before .before .before .before .before .before .put-decimal2 .ensures) in
+    let f = wrote-then e (c .before .before .before .before .before .before .before .before .before .before .before .put-word3 .ensures) in
+    let g = wrote-then f (c .before .before .before .before .before .before .before .put-decimal3 .ensures) in
+    wrote-then g (c .before .before .put-word4 .ensures)
 
 pub put-found-spec : {M : Type 1} → statement M
 put-found-spec =

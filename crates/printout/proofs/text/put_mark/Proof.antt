@@ -1,46 +1,60 @@
+-- `put_mark` meets its contract: the number, the word of the mark and the newline stand one after the other. Assumes nothing.
+use Prim.Native.Nat.{_+_, _≤_}
+use native.Mathlib.Omega.{arith}
+use mathlib.Core.Path.{_∙_}
+use mathlib.Core.Logic.{⊎-elim}
+use mathlib.Core.List.{_++_}
 use borrow.Author.Needs.{needs}
+use Rattle.diagram.specs.Printout.{decimal, takeWord, leftWord, line}
+use Rattle.printout.specs.Writing.{Wrote, markText}
+use Rattle.printout.proofs.Writes.{wrote-then}
+use Rattle.printout.proofs.Texts.{number-ends, markWord, wrote-take, wrote-left, word-ends}
 use Rattle.printout.proofs.text.put_mark.Statement.{statement}
 use Rattle.printout.proofs.text.put_mark.Tie as tie
-use Rattle.printout.proofs.text.put_mark.Reads as reads
-use Rattle.printout.proofs.text.put_mark.Lts as lts
-use Rattle.printout.proofs.decimal.put_decimal.Reads as put-decimal-reads
-use Rattle.printout.proofs.text.put_word.Reads as put-word-reads
 
--- src/text.rt:101:9
+-- where the number ends, at the most
+first-ends : (c : tie.After-put-decimal) → c .put-decimal .result ≤ c .before .before .before .args .at + 20
+first-ends c = number-ends (c .put-decimal .ensures) (c .before .before .before .fits .choice .fits)
+
+-- the number and the word of the mark are written
+marked : (c : tie.Joined1) → let a = c .before .before .before .before .before .before .args in Wrote (a .out .now) (a .at) (c .if1 .out) (c .if1 .b) (decimal (a .choice) ++ markWord (a .mark))
+unfolding takeWord leftWord
+marked c =
+    let number = c .before .before .before .put-decimal .ensures in
+    ⊎-elim
+    (λ w. rw (w .6, w .7) (wrote-then number (wrote-take (w .0 .taken) (w .3 .ensures))))
+    (λ w. rw (w .6, w .7) (wrote-then number (wrote-left (w .0 .left) (w .3 .ensures))))
+    (c .if1 .came)
+
 put-decimal-requires : tie.Need-put-decimal-requires
 put-decimal-requires c κs = search needs
 
--- src/text.rt:103:26
 slice-aggregate-put-word : tie.Need-slice-aggregate-put-word
 slice-aggregate-put-word c = search needs
 
--- src/text.rt:103:9
 put-word-requires : tie.Need-put-word-requires
-put-word-requires c κs = ?
+put-word-requires c κs = omega (arith, first-ends (c .before .before .before .before .before))
 
--- src/text.rt:105:26
 slice-aggregate-put-word-2 : tie.Need-slice-aggregate-put-word-2
 slice-aggregate-put-word-2 c = search needs
 
--- src/text.rt:105:9
 put-word-requires-2 : tie.Need-put-word-requires-2
-put-word-requires-2 c κs = ?
+put-word-requires-2 c κs = omega (arith, first-ends (c .before .before .before .before .before))
 
--- src/text.rt:107:22
 slice-aggregate-put-word-3 : tie.Need-slice-aggregate-put-word-3
 slice-aggregate-put-word-3 c = search needs
 
--- src/text.rt:107:5
 put-word-requires-3 : tie.Need-put-word-requires-3
-put-word-requires-3 c κs = ?
+put-word-requires-3 c κs =
+    let w = marked (c .before .before) in
+    omega (arith, w .size, word-ends (c .before .before .before .before .before .before .before .before .args .mark) w (c .before .before .before .before .before .before .before .before .fits .choice .fits))
 
--- src/text.rt:97:1
 same-length : tie.Need-same-length
-same-length c = ?
+same-length c = c .before .before .put-word3 .ensures .size ∙ marked (c .before .before .before .before .before) .size
 
--- src/text.rt:97:1
 returns : tie.Need-returns
-returns c = ?
+unfolding line markText
+returns c = wrote-then (marked (c .before .before .before .before .before)) (c .before .before .put-word3 .ensures)
 
 pub put-mark-spec : {M : Type 1} → statement M
 put-mark-spec =

@@ -1,50 +1,56 @@
+-- `put_refusal` meets its contract: its five texts stand one after the other, and each number takes at most 20 places. Assumes nothing.
+use Prim.Native.Nat.{_≤_}
+use native.Mathlib.Omega.{arith}
 use borrow.Author.Needs.{needs}
+use Rattle.diagram.specs.Printout.{refusedWord, line, refusalText}
+use Rattle.printout.proofs.Writes.{wrote-then}
+use Rattle.printout.proofs.Texts.{number-ends}
 use Rattle.printout.proofs.text.put_refusal.Statement.{statement}
 use Rattle.printout.proofs.text.put_refusal.Tie as tie
-use Rattle.printout.proofs.text.put_refusal.Reads as reads
-use Rattle.printout.proofs.text.put_refusal.Lts as lts
-use Rattle.printout.proofs.decimal.put_decimal.Reads as put-decimal-reads
-use Rattle.printout.proofs.text.put_word.Reads as put-word-reads
 
--- src/text.rt:31:30
+-- where the first number ends, at the most
+first-ends : (c : tie.After-put-decimal) → c .put-decimal .result ≤ 28
+first-ends c = omega (arith, number-ends (c .put-decimal .ensures) (omega (arith, c .before .before .before .before .before .before .before .before .fits .number)))
+
+-- where the second number ends, at the most
+second-ends : (c : tie.After-put-decimal2) → c .put-decimal2 .result ≤ 49
+second-ends c = omega (arith, first-ends (c .before .before .before .before .before .before .before .before .before), number-ends (c .put-decimal2 .ensures) (c .before .before .before .before .before .before .before .before .before .before .before .before .before .before .before .before .before .fits .place .fits))
+
 slice-aggregate-put-word : tie.Need-slice-aggregate-put-word
 slice-aggregate-put-word c = search needs
 
--- src/text.rt:31:9
 put-word-requires : tie.Need-put-word-requires
 put-word-requires c κs = search needs
 
--- src/text.rt:32:9
 put-decimal-requires : tie.Need-put-decimal-requires
 put-decimal-requires c κs = search needs
 
--- src/text.rt:33:30
 slice-aggregate-put-word-2 : tie.Need-slice-aggregate-put-word-2
 slice-aggregate-put-word-2 c = search needs
 
--- src/text.rt:33:9
 put-word-requires-2 : tie.Need-put-word-requires-2
-put-word-requires-2 c κs = ?
+put-word-requires-2 c κs = omega (arith, first-ends (c .before .before .before .before))
 
--- src/text.rt:34:9
 put-decimal-requires-2 : tie.Need-put-decimal-requires-2
-put-decimal-requires-2 c κs = ?
+put-decimal-requires-2 c κs = omega (arith, first-ends (c .before .before .before .before .before .before .before .before))
 
--- src/text.rt:35:22
 slice-aggregate-put-word-3 : tie.Need-slice-aggregate-put-word-3
 slice-aggregate-put-word-3 c = search needs
 
--- src/text.rt:35:5
 put-word-requires-3 : tie.Need-put-word-requires-3
-put-word-requires-3 c κs = ?
+put-word-requires-3 c κs = omega (arith, second-ends (c .before .before .before .before))
 
--- src/text.rt:27:1
 same-length : tie.Need-same-length
 same-length c = search needs
 
--- src/text.rt:27:1
 returns : tie.Need-returns
-returns c = ?
+unfolding refusedWord line refusalText
+returns c =
+    let a = c .before .before .before .before .before .before .before .before .before .before .before .before .before .before .before .before .before .before .before .before .put-word .ensures in
+    let b = wrote-then a (c .before .before .before .before .before .before .before .before .before .before .before .before .before .before .before .before .put-decimal .ensures) in
+    let d = wrote-then b (c .before .before .before .before .before .before .before .before .before .before .before .put-word2 .ensures) in
+    let e = wrote-then d (c .before .before .before .before .before .before .before .put-decimal2 .ensures) in
+    wrote-then e (c .before .before .put-word3 .ensures)
 
 pub put-refusal-spec : {M : Type 1} → statement M
 put-refusal-spec =

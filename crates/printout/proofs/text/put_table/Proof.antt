@@ -1,50 +1,57 @@
+-- `put_table` meets its contract: its five texts stand one after the other, and each number takes at most 20 places. Assumes nothing.
+use Prim.Native.Nat.{_≤_}
+use native.Mathlib.Omega.{arith}
 use borrow.Author.Needs.{needs}
+use Rattle.diagram.specs.Printout.{choicesWord, scaleWord, line}
+use Rattle.printout.specs.Writing.{tableText}
+use Rattle.printout.proofs.Writes.{wrote-then}
+use Rattle.printout.proofs.Texts.{number-ends}
 use Rattle.printout.proofs.text.put_table.Statement.{statement}
 use Rattle.printout.proofs.text.put_table.Tie as tie
-use Rattle.printout.proofs.text.put_table.Reads as reads
-use Rattle.printout.proofs.text.put_table.Lts as lts
-use Rattle.printout.proofs.decimal.put_decimal.Reads as put-decimal-reads
-use Rattle.printout.proofs.text.put_word.Reads as put-word-reads
 
--- src/text.rt:60:30
+-- where the first number ends, at the most
+first-ends : (c : tie.After-put-decimal) → c .put-decimal .result ≤ 28
+first-ends c = omega (arith, number-ends (c .put-decimal .ensures) (c .before .before .before .before .before .before .before .before .fits .choices .fits))
+
+-- where the second number ends, at the most
+second-ends : (c : tie.After-put-decimal2) → c .put-decimal2 .result ≤ 55
+second-ends c = omega (arith, first-ends (c .before .before .before .before .before .before .before .before .before), number-ends (c .put-decimal2 .ensures) (c .before .before .before .before .before .before .before .before .before .before .before .before .before .before .before .before .before .fits .scale .fits))
+
 slice-aggregate-put-word : tie.Need-slice-aggregate-put-word
 slice-aggregate-put-word c = search needs
 
--- src/text.rt:60:9
 put-word-requires : tie.Need-put-word-requires
 put-word-requires c κs = search needs
 
--- src/text.rt:61:9
 put-decimal-requires : tie.Need-put-decimal-requires
 put-decimal-requires c κs = search needs
 
--- src/text.rt:62:30
 slice-aggregate-put-word-2 : tie.Need-slice-aggregate-put-word-2
 slice-aggregate-put-word-2 c = search needs
 
--- src/text.rt:62:9
 put-word-requires-2 : tie.Need-put-word-requires-2
-put-word-requires-2 c κs = ?
+put-word-requires-2 c κs = omega (arith, first-ends (c .before .before .before .before))
 
--- src/text.rt:63:9
 put-decimal-requires-2 : tie.Need-put-decimal-requires-2
-put-decimal-requires-2 c κs = ?
+put-decimal-requires-2 c κs = omega (arith, first-ends (c .before .before .before .before .before .before .before .before))
 
--- src/text.rt:64:22
 slice-aggregate-put-word-3 : tie.Need-slice-aggregate-put-word-3
 slice-aggregate-put-word-3 c = search needs
 
--- src/text.rt:64:5
 put-word-requires-3 : tie.Need-put-word-requires-3
-put-word-requires-3 c κs = ?
+put-word-requires-3 c κs = omega (arith, second-ends (c .before .before .before .before))
 
--- src/text.rt:56:1
 same-length : tie.Need-same-length
 same-length c = search needs
 
--- src/text.rt:56:1
 returns : tie.Need-returns
-returns c = ?
+unfolding choicesWord scaleWord line tableText
+returns c =
+    let a = c .before .before .before .before .before .before .before .before .before .before .before .before .before .before .before .before .before .before .before .before .put-word .ensures in
+    let b = wrote-then a (c .before .before .before .before .before .before .before .before .before .before .before .before .before .before .before .before .put-decimal .ensures) in
+    let d = wrote-then b (c .before .before .before .before .before .before .before .before .before .before .before .put-word2 .ensures) in
+    let e = wrote-then d (c .before .before .before .before .before .before .before .put-decimal2 .ensures) in
+    wrote-then e (c .before .before .put-word3 .ensures)
 
 pub put-table-spec : {M : Type 1} → statement M
 put-table-spec =
