@@ -1,0 +1,58 @@
+-- `counter::checks::scale_too_large` is safe and ends: its loop counts `v` up to `end`. Assumes nothing.
+use Prim.Native.Nat.{_-_}
+use native.Mathlib.Omega.{arith}
+use Rattle.counter.proofs.checks.scale_too_large.Statement.{statement}
+use Rattle.counter.proofs.checks.scale_too_large.Tie as tie
+
+abbrev Inv-loop : tie.InvT-loop
+Inv-loop words end v₀ v = Unit
+
+abbrev μ-loop : tie.MeasureT-loop
+μ-loop words end v₀ v = end - v
+
+variables-requires : tie.Need-variables-requires Inv-loop μ-loop
+variables-requires c κs = tt
+
+loop-holds : tie.Need-loop-holds Inv-loop μ-loop
+loop-holds c = tt
+
+plus-requires : tie.Need-plus-requires Inv-loop μ-loop
+plus-requires c κs = tt
+
+scale-below-requires : tie.Need-scale-below-requires Inv-loop μ-loop
+scale-below-requires c κs = tt
+
+variable-place-requires : tie.Need-variable-place-requires Inv-loop μ-loop
+variable-place-requires c κs = tt
+
+returns : tie.Need-returns Inv-loop μ-loop
+returns c = tt
+
+add-v : tie.Need-add-v Inv-loop μ-loop
+add-v c = omega arith
+
+loop-less : tie.Need-loop-less Inv-loop μ-loop
+loop-less c = omega arith
+
+loop-again : tie.Need-loop-again Inv-loop μ-loop
+loop-again c = tt
+
+returns-2 : tie.Need-returns-2 Inv-loop μ-loop
+returns-2 c = tt
+
+pub scale-too-large-spec : {M : Type 1} → statement M
+scale-too-large-spec =
+    tie.close
+    (tie.spec
+    Inv-loop
+    μ-loop
+    variables-requires
+    loop-holds
+    plus-requires
+    scale-below-requires
+    variable-place-requires
+    returns
+    add-v
+    loop-less
+    loop-again
+    returns-2)

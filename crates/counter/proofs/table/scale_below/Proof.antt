@@ -1,0 +1,46 @@
+-- `counter::table::scale_below` is safe and ends: its loop counts `v` up to `n`. Assumes nothing.
+use Prim.Native.Nat.{_-_}
+use native.Mathlib.Omega.{arith}
+use Rattle.counter.proofs.table.scale_below.Statement.{statement}
+use Rattle.counter.proofs.table.scale_below.Tie as tie
+
+abbrev Inv-loop : tie.InvT-loop
+Inv-loop words n product₀ v₀ product v = Unit
+
+abbrev μ-loop : tie.MeasureT-loop
+μ-loop words n product₀ v₀ product v = n - v
+
+loop-holds : tie.Need-loop-holds Inv-loop μ-loop
+loop-holds c = tt
+
+whole-requires : tie.Need-whole-requires Inv-loop μ-loop
+whole-requires c κs = tt
+
+mul-requires : tie.Need-mul-requires Inv-loop μ-loop
+mul-requires c κs = tt
+
+add-v : tie.Need-add-v Inv-loop μ-loop
+add-v c = omega arith
+
+loop-less : tie.Need-loop-less Inv-loop μ-loop
+loop-less c = omega arith
+
+loop-again : tie.Need-loop-again Inv-loop μ-loop
+loop-again c = tt
+
+returns : tie.Need-returns Inv-loop μ-loop
+returns c = tt
+
+pub scale-below-spec : {M : Type 1} → statement M
+scale-below-spec =
+    tie.close
+    (tie.spec
+    Inv-loop
+    μ-loop
+    loop-holds
+    whole-requires
+    mul-requires
+    add-v
+    loop-less
+    loop-again
+    returns)
