@@ -1,191 +1,195 @@
-// The checks of a table, 11 to 18, in their order. A function that looks for the first word at
-// fault gives its place, and 0 where there is none: the heading is never such a word.
+// The checks, in their order.
 use crate::Verdict;
 use crate::answered;
-use crate::numbers::less;
-use crate::numbers::long;
+use crate::numbers::add;
 use crate::numbers::mul;
 use crate::numbers::only;
-use crate::numbers::plus;
-use crate::numbers::wide;
+use crate::plans::mark_at;
 use crate::refused;
 use crate::scores::walk;
+use crate::table::Word;
+use crate::table::choices;
 use crate::table::choices_below;
-use crate::table::field_p;
-use crate::table::field_q;
-use crate::table::field_r;
-use crate::table::heading_of;
-use crate::table::is_choice;
-use crate::table::kind;
-use crate::table::node_at;
-use crate::table::record_at;
-use crate::table::record_place;
+use crate::table::place_of;
+use crate::table::record;
 use crate::table::records;
+use crate::table::scale;
 use crate::table::scale_below;
-use crate::table::variable_at;
-use crate::table::variable_place;
+use crate::table::variable;
 use crate::table::variables;
+use crate::table::word_at;
 
-// 11, 12 and 13: what is seen of the length and the heading.
-pub fn shape(file: &[u8]) -> Verdict {
-    let length = long(file.len());
+// All checks of a service but 31 and 32. A service that has no input for one hands in what passes
+// it: marks of at least 1 for the score, else 0; percent 0; kits 0; the plan's own length.
+pub fn check(
+    file: &[u8],
+    words: &[u64; 320],
+    plan: &[u8],
+    least: u8,
+    percent: u32,
+    kits: u32,
+    lent: usize,
+) -> Verdict {
+    let table = check_table(file.len(), words);
+    if table.number != 0 {
+        return table;
+    }
+    let marks = check_plan(plan, table.third, least);
+    if marks.number != 0 {
+        return marks;
+    }
+    if 100 < percent {
+        return refused(23, 0);
+    }
+    if 20 < kits {
+        return refused(24, 0);
+    }
+    if lent != plan.len() {
+        return refused(25, 0);
+    }
+    answered(0, 0, 0, 0)
+}
+
+// 21, and 22: a mark below `least` or above 2.
+fn check_plan(plan: &[u8], lines: u64, least: u8) -> Verdict {
+    let length = plan.len() as u64;
+    if length != lines {
+        return refused(21, 0);
+    }
+    let mut c: u64 = 0;
+    while c < lines {
+        let mark = mark_at(plan, c);
+        if mark < least || 2 < mark {
+            return refused(22, c);
+        }
+        c += 1;
+    }
+    answered(0, 0, 0, 0)
+}
+
+// 11 to 18, and 99 before 18 where there are more settlings than are tried. The values: V, N, the
+// number of choices and B.
+pub fn check_table(length: usize, words: &[u64; 320]) -> Verdict {
     if length < 4 || 1260 < length || length % 4 != 0 {
         return refused(11, 0);
     }
-    let heading = heading_of(file);
-    if !right_heading(heading) {
+    if !right_heading(word_at(words, 0)) {
         return refused(12, 0);
     }
-    let count = plus(1, plus(field_p(heading), field_q(heading)));
-    if length != mul(4, wide(count)) {
+    let count = add(1, add(variables(words), records(words)));
+    if length as u64 != mul(4, count) {
         return refused(13, 0);
     }
-    answered(0, 0, 0, 0)
-}
-
-fn right_heading(word: u32) -> bool {
-    if kind(word) != 1 || field_r(word) != 0 {
-        return false;
+    let mut number: u64 = 14;
+    while number < 19 {
+        if number == 18 && 16 < variables(words) {
+            return refused(99, 0);
+        }
+        let place = first_at_fault(words, number);
+        if place != 0 {
+            return refused(number, place);
+        }
+        number += 1;
     }
-    within(field_p(word), 1, 60) && within(field_q(word), 1, 254)
+    answered(
+        variables(words),
+        records(words),
+        choices(words),
+        scale(words),
+    )
 }
 
-fn within(x: u32, low: u32, high: u32) -> bool {
+fn right_heading(word: Word) -> bool {
+    word.kind == 1 && within(word.p, 1, 60) && within(word.q, 1, 254) && word.r == 0
+}
+
+fn within(x: u64, low: u64, high: u64) -> bool {
     low <= x && x <= high
 }
 
-// 14 to 18, and 99 before 18 where there are more settlings than are tried.
-pub fn contents(words: &[u32; 320]) -> Verdict {
-    let variable = wrong_variable(words);
-    if variable != 0 {
-        return refused(14, wide(variable));
+// The place of the first word at fault by check 14 to 18; 0 where there is none.
+fn first_at_fault(words: &[u64; 320], number: u64) -> u64 {
+    if number < 17 {
+        first_variable(words, number)
+    } else {
+        first_record(words, number)
     }
-    let choice = choice_too_many(words);
-    if choice != 0 {
-        return refused(15, wide(choice));
-    }
-    let large = scale_too_large(words);
-    if large != 0 {
-        return refused(16, wide(large));
-    }
-    let record = wrong_record(words);
-    if record != 0 {
-        return refused(17, wide(record));
-    }
-    if 16 < variables(words) {
-        return refused(99, 0);
-    }
-    let fault = not_monotone(words);
-    if fault != 0 {
-        return refused(18, wide(fault));
-    }
-    answered(0, 0, 0, 0)
 }
 
-fn wrong_variable(words: &[u32; 320]) -> u32 {
+fn first_variable(words: &[u64; 320], number: u64) -> u64 {
     let end = variables(words);
-    let mut v: u32 = 0;
+    let mut v: u64 = 0;
     while v < end {
-        if !right_variable(variable_at(words, v), v) {
-            return variable_place(v);
+        if variable_at_fault(words, number, v) {
+            return v + 1;
         }
         v += 1;
     }
     0
 }
 
-fn right_variable(word: u32, v: u32) -> bool {
-    if field_p(word) != v {
+// 14: the word is wrong. 15 and 16: with it there are too many choices, or the product is too large.
+fn variable_at_fault(words: &[u64; 320], number: u64, v: u64) -> bool {
+    if number == 14 {
+        return !right_variable(variable(words, v), v);
+    }
+    if number == 15 {
+        return 20 < choices_below(words, add(v, 1));
+    }
+    72057594037927936 < scale_below(words, add(v, 1))
+}
+
+fn right_variable(word: Word, v: u64) -> bool {
+    if word.p != v {
         return false;
     }
-    let a = field_q(word);
-    let b = field_r(word);
-    if kind(word) == 2 {
-        return a == 0 && b == 0;
+    if word.kind == 2 {
+        return word.q == 0 && word.r == 0;
     }
-    if kind(word) == 3 {
-        return within(b, 1, 1000) && a <= b;
-    }
-    false
+    word.kind == 3 && within(word.r, 1, 1000) && word.q <= word.r
 }
 
-// The first choice word that is the 21st.
-fn choice_too_many(words: &[u32; 320]) -> u32 {
-    let end = variables(words);
-    let mut v: u32 = 0;
-    while v < end {
-        if is_choice(words, v) && 20 <= choices_below(words, v) {
-            return variable_place(v);
+fn first_record(words: &[u64; 320], number: u64) -> u64 {
+    let end = add(records(words), 2);
+    let mut node: u64 = 2;
+    while node < end {
+        if record_at_fault(words, number, node) {
+            return place_of(words, node);
         }
-        v += 1;
+        node += 1;
     }
     0
 }
 
-// The first variable word at which the product of b is above 2^56.
-fn scale_too_large(words: &[u32; 320]) -> u32 {
-    let end = variables(words);
-    let mut v: u32 = 0;
-    while v < end {
-        if 72057594037927936 < scale_below(words, plus(v, 1)) {
-            return variable_place(v);
-        }
-        v += 1;
+// 17: the word is wrong. 18: it is a choice, and not monotone.
+fn record_at_fault(words: &[u64; 320], number: u64, node: u64) -> bool {
+    let word = record(words, node);
+    if number == 17 {
+        return !right_record(words, node, word);
     }
-    0
+    variable(words, word.p).kind == 2 && falls(words, word.q, word.r)
 }
 
-fn wrong_record(words: &[u32; 320]) -> u32 {
-    let end = records(words);
-    let mut k: u32 = 0;
-    while k < end {
-        if !right_record(words, k) {
-            return record_place(words, k);
-        }
-        k += 1;
-    }
-    0
-}
-
-fn right_record(words: &[u32; 320], k: u32) -> bool {
-    let word = record_at(words, k);
-    if kind(word) != 4 || variables(words) <= field_p(word) {
+fn right_record(words: &[u64; 320], node: u64, word: Word) -> bool {
+    if word.kind != 4 || variables(words) <= word.p {
         return false;
     }
-    right_child(words, k, field_q(word)) && right_child(words, k, field_r(word))
+    right_child(words, node, word.p, word.q) && right_child(words, node, word.p, word.r)
 }
 
-// Whether a node may be a child of record k: its number is smaller than that of the record, and
-// where it is a record itself, its position is larger.
-fn right_child(words: &[u32; 320], k: u32, child: u32) -> bool {
-    if plus(k, 2) <= child {
+// Whether a record with this node number and position may have the child: the child's number is
+// smaller, and where it is a record, its position is larger.
+fn right_child(words: &[u64; 320], node: u64, position: u64, child: u64) -> bool {
+    if node <= child {
         return false;
     }
-    if child < 2 {
-        return true;
-    }
-    field_p(record_at(words, k)) < field_p(node_at(words, child))
+    child < 2 || position < record(words, child).p
 }
 
-fn not_monotone(words: &[u32; 320]) -> u32 {
-    let end = records(words);
-    let mut k: u32 = 0;
-    while k < end {
-        if is_choice(words, field_p(record_at(words, k))) && falls(words, k) {
-            return record_place(words, k);
-        }
-        k += 1;
-    }
-    0
-}
-
-// Whether some settling of all variables leads from lo of record k to true and from hi to false.
-fn falls(words: &[u32; 320], k: u32) -> bool {
-    let word = record_at(words, k);
-    let hi = field_q(word);
-    let lo = field_r(word);
+// Whether some settling of all variables leads from lo to true and from hi to false.
+fn falls(words: &[u64; 320], hi: u64, lo: u64) -> bool {
     let end = only(variables(words));
-    let mut settling: u32 = 0;
+    let mut settling: u64 = 0;
     while settling < end {
         if walk(words, lo, settling) && !walk(words, hi, settling) {
             return true;

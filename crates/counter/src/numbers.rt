@@ -1,9 +1,7 @@
-// Numbers that never leave their type: a sum or a product that would is the type's largest number,
-// and a difference that would is 0. And sets of small numbers, as the bits of a u32.
+// Numbers that never leave 64 bits: a sum or a product that would is the largest number, and a
+// difference that would is 0. And sets of numbers below 64, as the bits of one number.
 
 const MOST: u64 = 18446744073709551615;
-
-const MOST_SHORT: u32 = 4294967295;
 
 pub fn add(a: u64, b: u64) -> u64 {
     if b <= MOST - a { a + b } else { MOST }
@@ -20,37 +18,21 @@ pub fn sub(a: u64, b: u64) -> u64 {
     if b <= a { a - b } else { 0 }
 }
 
-pub fn plus(a: u32, b: u32) -> u32 {
-    if b <= MOST_SHORT - a {
-        a + b
-    } else {
-        MOST_SHORT
-    }
-}
-
-pub fn less(a: u32, b: u32) -> u32 {
-    if b <= a { a - b } else { 0 }
-}
-
-pub fn wide(a: u32) -> u64 {
-    a as u64
-}
-
-pub fn long(a: usize) -> u64 {
-    a as u64
-}
-
 // Whether i is in the set.
-pub fn has(set: u32, i: u32) -> bool {
-    if i < 32 { (set >> i) % 2 == 1 } else { false }
+pub fn has(set: u64, i: u64) -> bool {
+    if i < 64 { (set >> i) % 2 == 1 } else { false }
 }
 
-// The set of i alone: 2 to the power of i.
-pub fn only(i: u32) -> u32 {
-    if i < 32 { 1u32 << i } else { 0 }
+// The set of i alone, which is also 2 to the power of i.
+pub fn only(i: u64) -> u64 {
+    if i < 64 { 1u64 << i } else { 0 }
 }
 
-// The set with i in it.
-pub fn with(set: u32, i: u32) -> u32 {
-    set | only(i)
+// How many numbers are in the set.
+pub fn size(set: u64) -> u64 {
+    long(u64::count_ones(set))
+}
+
+fn long(count: u32) -> u64 {
+    count as u64
 }

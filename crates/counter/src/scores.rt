@@ -3,62 +3,55 @@
 // chance holds.
 use crate::numbers::add;
 use crate::numbers::has;
-use crate::numbers::less;
 use crate::numbers::mul;
 use crate::numbers::only;
-use crate::numbers::plus;
 use crate::numbers::sub;
-use crate::numbers::wide;
-use crate::numbers::with;
 use crate::table::choices;
-use crate::table::field_p;
-use crate::table::field_q;
-use crate::table::field_r;
-use crate::table::is_choice;
-use crate::table::node_at;
+use crate::table::record;
 use crate::table::records;
 use crate::table::scale;
-use crate::table::variable_at;
+use crate::table::variable;
 use crate::table::variables;
 
 // Whether the walk from a node ends in true.
-pub fn walk(words: &[u32; 320], start: u32, settling: u32) -> bool {
+pub fn walk(words: &[u64; 320], start: u64, settling: u64) -> bool {
     let mut node = start;
-    let mut steps: u32 = 0;
+    let mut steps: u64 = 0;
     while steps < 60 {
         if node < 2 {
             return node == 1;
         }
-        node = child(node_at(words, node), settling);
+        node = child(words, node, settling);
         steps += 1;
     }
     node == 1
 }
 
-fn child(record: u32, settling: u32) -> u32 {
-    if has(settling, field_p(record)) {
-        field_q(record)
+fn child(words: &[u64; 320], node: u64, settling: u64) -> u64 {
+    let word = record(words, node);
+    if has(settling, word.p) {
+        word.q
     } else {
-        field_r(record)
+        word.r
     }
 }
 
 // A settling as far as it is made: its positions, and how many choices and chances were passed.
 struct Made {
-    positions: u32,
-    choices: u32,
-    chances: u32,
+    positions: u64,
+    choices: u64,
+    chances: u64,
 }
 
-// The settling that a full plan and a set of chance numbers make.
-fn settle(words: &[u32; 320], full: u32, holding: u32) -> u32 {
+// The settling that a full plan and the set of the chance numbers that hold make.
+fn settle(words: &[u64; 320], full: u64, holding: u64) -> u64 {
     let end = variables(words);
     let mut made = Made {
         positions: 0,
         choices: 0,
         chances: 0,
     };
-    let mut v: u32 = 0;
+    let mut v: u64 = 0;
     while v < end {
         made = settle_one(words, full, holding, v, made);
         v += 1;
@@ -66,65 +59,64 @@ fn settle(words: &[u32; 320], full: u32, holding: u32) -> u32 {
     made.positions
 }
 
-fn settle_one(words: &[u32; 320], full: u32, holding: u32, v: u32, made: Made) -> Made {
+fn settle_one(words: &[u64; 320], full: u64, holding: u64, v: u64, made: Made) -> Made {
     let mut next = made;
-    if is_choice(words, v) {
-        if has(full, made.choices) {
-            next.positions = with(made.positions, v);
-        }
-        next.choices = plus(made.choices, 1);
+    if variable(words, v).kind == 2 {
+        next.positions = with(made.positions, v, has(full, made.choices));
+        next.choices = add(made.choices, 1);
     } else {
-        if has(holding, made.chances) {
-            next.positions = with(made.positions, v);
-        }
-        next.chances = plus(made.chances, 1);
+        next.positions = with(made.positions, v, has(holding, made.chances));
+        next.chances = add(made.chances, 1);
     }
     next
 }
 
-// What the variable at position v adds to the product: a where it holds, b - a where it does not;
-// 1 for a choice.
-fn share(words: &[u32; 320], v: u32, holds: bool) -> u64 {
-    if is_choice(words, v) {
-        return 1;
-    }
-    let word = variable_at(words, v);
-    let a = wide(field_q(word));
-    let b = wide(field_r(word));
-    if holds { a } else { sub(b, a) }
+// The set with v in it, if it is on.
+fn with(set: u64, v: u64, on: bool) -> u64 {
+    if on { set | only(v) } else { set }
 }
 
-fn product(words: &[u32; 320], settling: u32) -> u64 {
+// What the variable at position v gives to the product: a where it holds and b - a where it does
+// not; 1 for a choice.
+fn share(words: &[u64; 320], v: u64, settling: u64) -> u64 {
+    let word = variable(words, v);
+    if word.kind == 2 {
+        return 1;
+    }
+    if has(settling, v) {
+        word.q
+    } else {
+        sub(word.r, word.q)
+    }
+}
+
+fn product(words: &[u64; 320], settling: u64) -> u64 {
     let end = variables(words);
     let mut result: u64 = 1;
-    let mut v: u32 = 0;
+    let mut v: u64 = 0;
     while v < end {
-        result = mul(result, share(words, v, has(settling, v)));
+        result = mul(result, share(words, v, settling));
         v += 1;
     }
     result
 }
 
-// What a settling adds to the score: its product where the walk from the root ends in true.
-fn worth(words: &[u32; 320], settling: u32) -> u64 {
-    if walk(words, plus(records(words), 1), settling) {
-        return product(words, settling);
-    }
-    0
-}
-
-pub fn score_of(words: &[u32; 320], full: u32) -> u64 {
-    let end = only(less(variables(words), choices(words)));
+pub fn score_of(words: &[u64; 320], full: u64) -> u64 {
+    let root = add(records(words), 1);
+    let end = only(sub(variables(words), choices(words)));
     let mut sum: u64 = 0;
-    let mut holding: u32 = 0;
+    let mut holding: u64 = 0;
     while holding < end {
-        sum = add(sum, worth(words, settle(words, full, holding)));
+        let settling = settle(words, full, holding);
+        if walk(words, root, settling) {
+            sum = add(sum, product(words, settling));
+        }
         holding += 1;
     }
     sum
 }
 
 // Whether a score passes a percent.
-pub fn passes(words: &[u32; 320], score: u64, percent: u32) -> bool {
-    mul(wide(percent), scale(words)) < mul(100, score)
+pub fn passes(words: &[u64; 320], score: u64, percent: u32) -> bool {
+    mul(percent as u64, scale(words)) < mul(100, score)
 }

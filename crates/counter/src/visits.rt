@@ -1,5 +1,6 @@
-// The visits of the search, by the visit rule as it is written, each score counted afresh.
+// The visits of the search, by the visit rule as it is written, with each score counted afresh.
 use crate::numbers::add;
+use crate::numbers::size;
 use crate::numbers::sub;
 use crate::plans::Best;
 use crate::plans::Marks;
@@ -12,73 +13,49 @@ use crate::plans::top_of;
 use crate::scores::passes;
 use crate::table::choices;
 
-// The visits so far, and the best plan held.
-pub struct Visited {
-    pub count: u64,
-    pub best: Best,
+pub fn visits_of(words: &[u64; 320], marks: Marks, kits: u32, percent: u32) -> u64 {
+    let best = visit(words, marks, kits, percent, 20, none_held());
+    best.visits
 }
 
-pub fn visits_of(words: &[u32; 320], marks: Marks, kits: u32, percent: u32) -> u64 {
-    let start = Visited {
-        count: 0,
-        best: none_held(),
-    };
-    let end = visit(words, marks, kits, percent, 20, start);
-    end.count
-}
-
-// One visit and those below it. No more than `room` lines are open.
-fn visit(
-    words: &[u32; 320],
-    marks: Marks,
-    kits: u32,
-    percent: u32,
-    room: u32,
-    before: Visited,
-) -> Visited {
-    let here = counted(before);
-    let top = top_of(words, marks);
-    let best = here.best;
-    if kits < u32::count_ones(marks.taken) || !worth_a_visit(words, top, percent, best) {
-        return here;
+// One visit and those after it, with at most `room` lines open.
+fn visit(words: &[u64; 320], marks: Marks, kits: u32, percent: u32, room: u64, held: Best) -> Best {
+    let best = counted(held);
+    if goes_back(words, marks, kits, percent, best) {
+        return best;
     }
     let d = lowest_open(words, marks);
     if d == choices(words) {
-        return finished(here, top, marks.taken);
+        return first_of(best, top_of(words, marks), marks.taken);
     }
     if room == 0 {
-        return here;
+        return best;
     }
-    let after = visit(words, marked(marks, d, 1), kits, percent, room - 1, here);
-    let rest = sub(top, drop_of(words, marks, d));
-    let now_held = after.best;
-    if !worth_a_visit(words, rest, percent, now_held) {
-        return after;
+    let next = visit(words, marked(marks, d, 1), kits, percent, room - 1, best);
+    if !goes_left(words, marks, percent, d, next) {
+        return next;
     }
-    visit(words, marked(marks, d, 2), kits, percent, room - 1, after)
+    visit(words, marked(marks, d, 2), kits, percent, room - 1, next)
 }
 
-fn counted(v: Visited) -> Visited {
-    let best = v.best;
-    Visited {
-        count: add(v.count, 1),
-        best,
-    }
+fn counted(best: Best) -> Best {
+    let mut next = best;
+    next.visits = add(best.visits, 1);
+    next
 }
 
-// Whether a top passes and is not less than the score of the best plan held.
-fn worth_a_visit(words: &[u32; 320], top: u64, percent: u32, best: Best) -> bool {
-    if best.held && top < best.score {
-        return false;
-    }
-    passes(words, top, percent)
+// Whether a visit goes back: more lines are taken than kits, or the top does not serve.
+fn goes_back(words: &[u64; 320], marks: Marks, kits: u32, percent: u32, best: Best) -> bool {
+    (kits as u64) < size(marks.taken) || !serves(words, top_of(words, marks), percent, best)
 }
 
-// A visit with no line open: the plan becomes the best held if it ranks before it.
-fn finished(v: Visited, score: u64, full: u32) -> Visited {
-    let best = v.best;
-    Visited {
-        count: v.count,
-        best: first_of(best, score, full),
-    }
+// Whether d is to be left too: the top less d's drop serves.
+fn goes_left(words: &[u64; 320], marks: Marks, percent: u32, d: u64, best: Best) -> bool {
+    let rest = sub(top_of(words, marks), drop_of(words, marks, d));
+    serves(words, rest, percent, best)
+}
+
+// Whether a score passes and is not less than that of the best plan, if one is held.
+fn serves(words: &[u64; 320], score: u64, percent: u32, best: Best) -> bool {
+    passes(words, score, percent) && !(best.held && score < best.score)
 }

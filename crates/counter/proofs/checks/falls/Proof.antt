@@ -5,19 +5,10 @@ use Rattle.counter.proofs.checks.falls.Statement.{statement}
 use Rattle.counter.proofs.checks.falls.Tie as tie
 
 abbrev Inv-loop : tie.InvT-loop
-Inv-loop words k word hi lo end settling₀ settling = Unit
+Inv-loop words hi lo end settling₀ settling = Unit
 
 abbrev μ-loop : tie.MeasureT-loop
-μ-loop words k word hi lo end settling₀ settling = end - settling
-
-record-at-requires : tie.Need-record-at-requires Inv-loop μ-loop
-record-at-requires c κs = tt
-
-field-q-requires : tie.Need-field-q-requires Inv-loop μ-loop
-field-q-requires c κs = tt
-
-field-r-requires : tie.Need-field-r-requires Inv-loop μ-loop
-field-r-requires c κs = tt
+μ-loop words hi lo end settling₀ settling = end - settling
 
 variables-requires : tie.Need-variables-requires Inv-loop μ-loop
 variables-requires c κs = tt
@@ -55,9 +46,6 @@ falls-spec =
     (tie.spec
     Inv-loop
     μ-loop
-    record-at-requires
-    field-q-requires
-    field-r-requires
     variables-requires
     only-requires
     loop-holds

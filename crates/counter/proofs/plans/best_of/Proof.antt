@@ -25,8 +25,11 @@ loop-holds c = tt
 completes-requires : tie.Need-completes-requires Inv-loop μ-loop
 completes-requires c κs = tt
 
-better-requires : tie.Need-better-requires Inv-loop μ-loop
-better-requires c κs = tt
+size-requires : tie.Need-size-requires Inv-loop μ-loop
+size-requires c κs = tt
+
+tried-requires : tie.Need-tried-requires Inv-loop μ-loop
+tried-requires c κs = tt
 
 add-full : tie.Need-add-full Inv-loop μ-loop
 add-full c = omega arith
@@ -51,7 +54,8 @@ best-of-spec =
     none-held-requires
     loop-holds
     completes-requires
-    better-requires
+    size-requires
+    tried-requires
     add-full
     loop-less
     loop-again

@@ -16,8 +16,8 @@ choices-requires c κs = tt
 loop-holds : tie.Need-loop-holds Inv-loop μ-loop
 loop-holds c = tt
 
-is-open-requires : tie.Need-is-open-requires Inv-loop μ-loop
-is-open-requires c κs = tt
+mark-of-requires : tie.Need-mark-of-requires Inv-loop μ-loop
+mark-of-requires c κs = tt
 
 returns : tie.Need-returns Inv-loop μ-loop
 returns c = tt
@@ -42,7 +42,7 @@ lowest-open-spec =
     μ-loop
     choices-requires
     loop-holds
-    is-open-requires
+    mark-of-requires
     returns
     add-c
     loop-less

@@ -22,15 +22,6 @@ has-requires-2 c κs = tt
 returns : tie.Need-returns Inv-loop μ-loop
 returns c = tt
 
-has-requires-3 : tie.Need-has-requires-3 Inv-loop μ-loop
-has-requires-3 c κs = tt
-
-has-requires-4 : tie.Need-has-requires-4 Inv-loop μ-loop
-has-requires-4 c κs = tt
-
-returns-2 : tie.Need-returns-2 Inv-loop μ-loop
-returns-2 c = tt
-
 add-c : tie.Need-add-c Inv-loop μ-loop
 add-c c = omega arith
 
@@ -40,8 +31,8 @@ loop-less c = omega arith
 loop-again : tie.Need-loop-again Inv-loop μ-loop
 loop-again c = tt
 
-returns-3 : tie.Need-returns-3 Inv-loop μ-loop
-returns-3 c = tt
+returns-2 : tie.Need-returns-2 Inv-loop μ-loop
+returns-2 c = tt
 
 pub takes-first-spec : {M : Type 1} → statement M
 takes-first-spec =
@@ -53,10 +44,7 @@ takes-first-spec =
     has-requires
     has-requires-2
     returns
-    has-requires-3
-    has-requires-4
-    returns-2
     add-c
     loop-less
     loop-again
-    returns-3)
+    returns-2)

@@ -1,4 +1,4 @@
--- `counter::plans::write_drops` is safe and ends: its loop counts `c` up to 20, and the slice keeps its length. Assumes nothing.
+-- `counter::plans::write_drops` is safe and ends: its loop counts `c` up to `end`, and the slice keeps its length. Assumes nothing.
 use Prim.Native.Nat.{_-_}
 use native.Mathlib.Omega.{arith}
 use mathlib.Core.Path.{_≡_, _∙_, refl}
@@ -7,10 +7,13 @@ use Rattle.counter.proofs.plans.write_drops.Statement.{statement}
 use Rattle.counter.proofs.plans.write_drops.Tie as tie
 
 abbrev Inv-loop : tie.InvT-loop
-Inv-loop words marks drops₀ c₀ drops c = length drops ≡ length drops₀
+Inv-loop words marks drops₀ end c₀ drops c = length drops ≡ length drops₀
 
 abbrev μ-loop : tie.MeasureT-loop
-μ-loop words marks drops₀ c₀ drops c = 20 - c
+μ-loop words marks drops₀ end c₀ drops c = end - c
+
+choices-requires : tie.Need-choices-requires Inv-loop μ-loop
+choices-requires c κs = tt
 
 loop-holds : tie.Need-loop-holds Inv-loop μ-loop
 loop-holds c = refl
@@ -42,6 +45,7 @@ write-drops-spec =
     (tie.spec
     Inv-loop
     μ-loop
+    choices-requires
     loop-holds
     drop-of-requires
     put-drop-requires

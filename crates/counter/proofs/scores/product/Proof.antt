@@ -16,9 +16,6 @@ variables-requires c κs = tt
 loop-holds : tie.Need-loop-holds Inv-loop μ-loop
 loop-holds c = tt
 
-has-requires : tie.Need-has-requires Inv-loop μ-loop
-has-requires c κs = tt
-
 share-requires : tie.Need-share-requires Inv-loop μ-loop
 share-requires c κs = tt
 
@@ -45,7 +42,6 @@ product-spec =
     μ-loop
     variables-requires
     loop-holds
-    has-requires
     share-requires
     mul-requires
     add-v

@@ -16,9 +16,6 @@ loop-holds c = tt
 returns : tie.Need-returns Inv-loop μ-loop
 returns c = tt
 
-node-at-requires : tie.Need-node-at-requires Inv-loop μ-loop
-node-at-requires c κs = tt
-
 child-requires : tie.Need-child-requires Inv-loop μ-loop
 child-requires c κs = tt
 
@@ -42,7 +39,6 @@ walk-spec =
     μ-loop
     loop-holds
     returns
-    node-at-requires
     child-requires
     add-steps
     loop-less

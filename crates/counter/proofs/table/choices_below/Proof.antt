@@ -13,11 +13,11 @@ abbrev μ-loop : tie.MeasureT-loop
 loop-holds : tie.Need-loop-holds Inv-loop μ-loop
 loop-holds c = tt
 
-is-choice-requires : tie.Need-is-choice-requires Inv-loop μ-loop
-is-choice-requires c κs = tt
+variable-requires : tie.Need-variable-requires Inv-loop μ-loop
+variable-requires c κs = tt
 
-plus-requires : tie.Need-plus-requires Inv-loop μ-loop
-plus-requires c κs = tt
+add-requires : tie.Need-add-requires Inv-loop μ-loop
+add-requires c κs = omega arith
 
 add-v : tie.Need-add-v Inv-loop μ-loop
 add-v c = omega arith
@@ -38,8 +38,8 @@ choices-below-spec =
     Inv-loop
     μ-loop
     loop-holds
-    is-choice-requires
-    plus-requires
+    variable-requires
+    add-requires
     add-v
     loop-less
     loop-again

@@ -13,8 +13,8 @@ abbrev μ-loop : tie.MeasureT-loop
 loop-holds : tie.Need-loop-holds Inv-loop μ-loop
 loop-holds c = tt
 
-whole-requires : tie.Need-whole-requires Inv-loop μ-loop
-whole-requires c κs = tt
+variable-requires : tie.Need-variable-requires Inv-loop μ-loop
+variable-requires c κs = tt
 
 mul-requires : tie.Need-mul-requires Inv-loop μ-loop
 mul-requires c κs = tt
@@ -38,7 +38,7 @@ scale-below-spec =
     Inv-loop
     μ-loop
     loop-holds
-    whole-requires
+    variable-requires
     mul-requires
     add-v
     loop-less

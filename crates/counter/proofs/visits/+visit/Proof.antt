@@ -6,15 +6,14 @@ use borrow.Fn.PlainCycle.{Measures, is, falls, and}
 use Rattle.counter.proofs.visits.visit.Reads as visit
 use Rattle.counter.proofs.visits.visit.Kinds as visit-kinds
 use Rattle.counter.proofs.visits.+visit.Lts-visit as visit-lts
-use Rattle.counter.proofs.numbers.sub.Reads as sub-reads
-use Rattle.counter.proofs.plans.drop_of.Reads as drop-of-reads
+use Rattle.counter.proofs.plans.first_of.Reads as first-of-reads
 use Rattle.counter.proofs.plans.lowest_open.Reads as lowest-open-reads
 use Rattle.counter.proofs.plans.marked.Reads as marked-reads
 use Rattle.counter.proofs.plans.top_of.Reads as top-of-reads
 use Rattle.counter.proofs.table.choices.Reads as choices-reads
 use Rattle.counter.proofs.visits.counted.Reads as counted-reads
-use Rattle.counter.proofs.visits.finished.Reads as finished-reads
-use Rattle.counter.proofs.visits.worth_a_visit.Reads as worth-a-visit-reads
+use Rattle.counter.proofs.visits.goes_back.Reads as goes-back-reads
+use Rattle.counter.proofs.visits.goes_left.Reads as goes-left-reads
 use Rattle.counter.proofs.visits.+visit.{statement}
 use Rattle.counter.proofs.visits.+visit.Tie.{close}
 
@@ -29,16 +28,13 @@ visit-below t = and 1 visit-kinds.ps (falls 1 visit-kinds.ps _<_ μ-visit t) vis
 
 -- what each callee asks and gives
 abbrev R : ℕ → visit-lts.Claims
-R t = (counted-reads.Asked, counted-reads.Learnt, top-of-reads.Asked, top-of-reads.Learnt, worth-a-visit-reads.Asked, worth-a-visit-reads.Learnt, lowest-open-reads.Asked, lowest-open-reads.Learnt, choices-reads.Asked, choices-reads.Learnt, finished-reads.Asked, finished-reads.Learnt, marked-reads.Asked, marked-reads.Learnt, visit-below t, visit.Post, drop-of-reads.Asked, drop-of-reads.Learnt, sub-reads.Asked, sub-reads.Learnt)
+R t = (counted-reads.Asked, counted-reads.Learnt, goes-back-reads.Asked, goes-back-reads.Learnt, lowest-open-reads.Asked, lowest-open-reads.Learnt, choices-reads.Asked, choices-reads.Learnt, top-of-reads.Asked, top-of-reads.Learnt, first-of-reads.Asked, first-of-reads.Learnt, marked-reads.Asked, marked-reads.Learnt, visit-below t, visit.Post, goes-left-reads.Asked, goes-left-reads.Learnt)
 
 visit-counted-requires : (t : ℕ) → visit-lts.Need-counted-requires (R t) (visit-at t) visit.Post
 visit-counted-requires t c κs = tt
 
-visit-top-of-requires : (t : ℕ) → visit-lts.Need-top-of-requires (R t) (visit-at t) visit.Post
-visit-top-of-requires t c κs = tt
-
-visit-worth-a-visit-requires : (t : ℕ) → visit-lts.Need-worth-a-visit-requires (R t) (visit-at t) visit.Post
-visit-worth-a-visit-requires t c κs = tt
+visit-goes-back-requires : (t : ℕ) → visit-lts.Need-goes-back-requires (R t) (visit-at t) visit.Post
+visit-goes-back-requires t c κs = tt
 
 visit-returns : (t : ℕ) → visit-lts.Need-returns (R t) (visit-at t) visit.Post
 visit-returns t c = tt
@@ -49,8 +45,11 @@ visit-lowest-open-requires t c κs = tt
 visit-choices-requires : (t : ℕ) → visit-lts.Need-choices-requires (R t) (visit-at t) visit.Post
 visit-choices-requires t c κs = tt
 
-visit-finished-requires : (t : ℕ) → visit-lts.Need-finished-requires (R t) (visit-at t) visit.Post
-visit-finished-requires t c κs = tt
+visit-top-of-requires : (t : ℕ) → visit-lts.Need-top-of-requires (R t) (visit-at t) visit.Post
+visit-top-of-requires t c κs = tt
+
+visit-first-of-requires : (t : ℕ) → visit-lts.Need-first-of-requires (R t) (visit-at t) visit.Post
+visit-first-of-requires t c κs = tt
 
 visit-returns-2 : (t : ℕ) → visit-lts.Need-returns-2 (R t) (visit-at t) visit.Post
 visit-returns-2 t c = tt
@@ -67,14 +66,8 @@ visit-sub-visit t c = omega arith
 visit-visit-requires : (t : ℕ) → visit-lts.Need-visit-requires (R t) (visit-at t) visit.Post
 visit-visit-requires t c κs = (omega arith, tt)
 
-visit-drop-of-requires : (t : ℕ) → visit-lts.Need-drop-of-requires (R t) (visit-at t) visit.Post
-visit-drop-of-requires t c κs = tt
-
-visit-sub-requires : (t : ℕ) → visit-lts.Need-sub-requires (R t) (visit-at t) visit.Post
-visit-sub-requires t c κs = tt
-
-visit-worth-a-visit-requires-2 : (t : ℕ) → visit-lts.Need-worth-a-visit-requires-2 (R t) (visit-at t) visit.Post
-visit-worth-a-visit-requires-2 t c κs = tt
+visit-goes-left-requires : (t : ℕ) → visit-lts.Need-goes-left-requires (R t) (visit-at t) visit.Post
+visit-goes-left-requires t c κs = tt
 
 visit-returns-4 : (t : ℕ) → visit-lts.Need-returns-4 (R t) (visit-at t) visit.Post
 visit-returns-4 t c = tt
@@ -86,8 +79,7 @@ visit-sub-visit-2 : (t : ℕ) → visit-lts.Need-sub-visit-2 (R t) (visit-at t) 
 visit-sub-visit-2 t c = omega arith
 
 visit-visit-requires-2 : (t : ℕ) → visit-lts.Need-visit-requires-2 (R t) (visit-at t) visit.Post
-visit-visit-requires-2 t c κs =
-    (omega (arith, c .before .before .before .before .before .before .before .before .before .before .before .before .before .before .before .before .before .before .before .pre .0), tt)
+visit-visit-requires-2 t c κs = (omega arith, tt)
 
 visit-returns-5 : (t : ℕ) → visit-lts.Need-returns-5 (R t) (visit-at t) visit.Post
 visit-returns-5 t c = tt
@@ -97,20 +89,18 @@ pub +visit-spec : {M : Type 1} → statement M
     (visit-at t)
     visit.Post
     (visit-counted-requires t)
-    (visit-top-of-requires t)
-    (visit-worth-a-visit-requires t)
+    (visit-goes-back-requires t)
     (visit-returns t)
     (visit-lowest-open-requires t)
     (visit-choices-requires t)
-    (visit-finished-requires t)
+    (visit-top-of-requires t)
+    (visit-first-of-requires t)
     (visit-returns-2 t)
     (visit-returns-3 t)
     (visit-marked-requires t)
     (visit-sub-visit t)
     (visit-visit-requires t)
-    (visit-drop-of-requires t)
-    (visit-sub-requires t)
-    (visit-worth-a-visit-requires-2 t)
+    (visit-goes-left-requires t)
     (visit-returns-4 t)
     (visit-marked-requires-2 t)
     (visit-sub-visit-2 t)

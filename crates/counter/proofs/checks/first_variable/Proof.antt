@@ -1,14 +1,14 @@
--- `counter::checks::scale_too_large` is safe and ends: its loop counts `v` up to `end`. Assumes nothing.
+-- `counter::checks::first_variable` is safe and ends: its loop counts `v` up to `end`. Assumes nothing.
 use Prim.Native.Nat.{_-_}
 use native.Mathlib.Omega.{arith}
-use Rattle.counter.proofs.checks.scale_too_large.Statement.{statement}
-use Rattle.counter.proofs.checks.scale_too_large.Tie as tie
+use Rattle.counter.proofs.checks.first_variable.Statement.{statement}
+use Rattle.counter.proofs.checks.first_variable.Tie as tie
 
 abbrev Inv-loop : tie.InvT-loop
-Inv-loop words end v₀ v = Unit
+Inv-loop words number end v₀ v = Unit
 
 abbrev μ-loop : tie.MeasureT-loop
-μ-loop words end v₀ v = end - v
+μ-loop words number end v₀ v = end - v
 
 variables-requires : tie.Need-variables-requires Inv-loop μ-loop
 variables-requires c κs = tt
@@ -16,14 +16,11 @@ variables-requires c κs = tt
 loop-holds : tie.Need-loop-holds Inv-loop μ-loop
 loop-holds c = tt
 
-plus-requires : tie.Need-plus-requires Inv-loop μ-loop
-plus-requires c κs = tt
+variable-at-fault-requires : tie.Need-variable-at-fault-requires Inv-loop μ-loop
+variable-at-fault-requires c κs = tt
 
-scale-below-requires : tie.Need-scale-below-requires Inv-loop μ-loop
-scale-below-requires c κs = tt
-
-variable-place-requires : tie.Need-variable-place-requires Inv-loop μ-loop
-variable-place-requires c κs = tt
+add-result : tie.Need-add-result Inv-loop μ-loop
+add-result c = omega arith
 
 returns : tie.Need-returns Inv-loop μ-loop
 returns c = tt
@@ -40,17 +37,16 @@ loop-again c = tt
 returns-2 : tie.Need-returns-2 Inv-loop μ-loop
 returns-2 c = tt
 
-pub scale-too-large-spec : {M : Type 1} → statement M
-scale-too-large-spec =
+pub first-variable-spec : {M : Type 1} → statement M
+first-variable-spec =
     tie.close
     (tie.spec
     Inv-loop
     μ-loop
     variables-requires
     loop-holds
-    plus-requires
-    scale-below-requires
-    variable-place-requires
+    variable-at-fault-requires
+    add-result
     returns
     add-v
     loop-less
