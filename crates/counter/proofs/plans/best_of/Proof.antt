@@ -10,38 +10,11 @@ Inv-loop words marks kits percent end best₀ full₀ best full = Unit
 abbrev μ-loop : tie.MeasureT-loop
 μ-loop words marks kits percent end best₀ full₀ best full = end - full
 
-choices-requires : tie.Need-choices-requires Inv-loop μ-loop
-choices-requires c κs = tt
-
-only-requires : tie.Need-only-requires Inv-loop μ-loop
-only-requires c κs = tt
-
-none-held-requires : tie.Need-none-held-requires Inv-loop μ-loop
-none-held-requires c κs = tt
-
-loop-holds : tie.Need-loop-holds Inv-loop μ-loop
-loop-holds c = tt
-
-completes-requires : tie.Need-completes-requires Inv-loop μ-loop
-completes-requires c κs = tt
-
-size-requires : tie.Need-size-requires Inv-loop μ-loop
-size-requires c κs = tt
-
-tried-requires : tie.Need-tried-requires Inv-loop μ-loop
-tried-requires c κs = tt
-
 add-full : tie.Need-add-full Inv-loop μ-loop
 add-full c = omega arith
 
 loop-less : tie.Need-loop-less Inv-loop μ-loop
 loop-less c = omega arith
-
-loop-again : tie.Need-loop-again Inv-loop μ-loop
-loop-again c = tt
-
-returns : tie.Need-returns Inv-loop μ-loop
-returns c = tt
 
 pub best-of-spec : {M : Type 1} → statement M
 best-of-spec =
@@ -49,14 +22,14 @@ best-of-spec =
     (tie.spec
     Inv-loop
     μ-loop
-    choices-requires
-    only-requires
-    none-held-requires
-    loop-holds
-    completes-requires
-    size-requires
-    tried-requires
+    (λ _ _. tt)
+    (λ _ _. tt)
+    (λ _ _. tt)
+    (λ _. tt)
+    (λ _ _. tt)
+    (λ _ _. tt)
+    (λ _ _. tt)
     add-full
     loop-less
-    loop-again
-    returns)
+    (λ _. tt)
+    (λ _. tt))

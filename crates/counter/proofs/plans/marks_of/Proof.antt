@@ -10,26 +10,11 @@ Inv-loop plan marks₀ c₀ marks c = Unit
 abbrev μ-loop : tie.MeasureT-loop
 μ-loop plan marks₀ c₀ marks c = 20 - c
 
-loop-holds : tie.Need-loop-holds Inv-loop μ-loop
-loop-holds c = tt
-
-mark-at-requires : tie.Need-mark-at-requires Inv-loop μ-loop
-mark-at-requires c κs = tt
-
-marked-requires : tie.Need-marked-requires Inv-loop μ-loop
-marked-requires c κs = tt
-
 add-c : tie.Need-add-c Inv-loop μ-loop
 add-c c = omega arith
 
 loop-less : tie.Need-loop-less Inv-loop μ-loop
 loop-less c = omega arith
-
-loop-again : tie.Need-loop-again Inv-loop μ-loop
-loop-again c = tt
-
-returns : tie.Need-returns Inv-loop μ-loop
-returns c = tt
 
 pub marks-of-spec : {M : Type 1} → statement M
 marks-of-spec =
@@ -37,10 +22,10 @@ marks-of-spec =
     (tie.spec
     Inv-loop
     μ-loop
-    loop-holds
-    mark-at-requires
-    marked-requires
+    (λ _. tt)
+    (λ _ _. tt)
+    (λ _ _. tt)
     add-c
     loop-less
-    loop-again
-    returns)
+    (λ _. tt)
+    (λ _. tt))

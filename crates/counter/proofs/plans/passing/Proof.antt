@@ -10,38 +10,11 @@ Inv-loop words marks percent end seen₀ full₀ seen full = Unit
 abbrev μ-loop : tie.MeasureT-loop
 μ-loop words marks percent end seen₀ full₀ seen full = end - full
 
-choices-requires : tie.Need-choices-requires Inv-loop μ-loop
-choices-requires c κs = tt
-
-only-requires : tie.Need-only-requires Inv-loop μ-loop
-only-requires c κs = tt
-
-loop-holds : tie.Need-loop-holds Inv-loop μ-loop
-loop-holds c = tt
-
-completes-requires : tie.Need-completes-requires Inv-loop μ-loop
-completes-requires c κs = tt
-
-score-of-requires : tie.Need-score-of-requires Inv-loop μ-loop
-score-of-requires c κs = tt
-
-passes-requires : tie.Need-passes-requires Inv-loop μ-loop
-passes-requires c κs = tt
-
-others-requires : tie.Need-others-requires Inv-loop μ-loop
-others-requires c κs = tt
-
 add-full : tie.Need-add-full Inv-loop μ-loop
 add-full c = omega arith
 
 loop-less : tie.Need-loop-less Inv-loop μ-loop
 loop-less c = omega arith
-
-loop-again : tie.Need-loop-again Inv-loop μ-loop
-loop-again c = tt
-
-returns : tie.Need-returns Inv-loop μ-loop
-returns c = tt
 
 pub passing-spec : {M : Type 1} → statement M
 passing-spec =
@@ -49,14 +22,14 @@ passing-spec =
     (tie.spec
     Inv-loop
     μ-loop
-    choices-requires
-    only-requires
-    loop-holds
-    completes-requires
-    score-of-requires
-    passes-requires
-    others-requires
+    (λ _ _. tt)
+    (λ _ _. tt)
+    (λ _. tt)
+    (λ _ _. tt)
+    (λ _ _. tt)
+    (λ _ _. tt)
+    (λ _ _. tt)
     add-full
     loop-less
-    loop-again
-    returns)
+    (λ _. tt)
+    (λ _. tt))

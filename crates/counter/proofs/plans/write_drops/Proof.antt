@@ -12,17 +12,8 @@ Inv-loop words marks drops₀ end c₀ drops c = length drops ≡ length drops�
 abbrev μ-loop : tie.MeasureT-loop
 μ-loop words marks drops₀ end c₀ drops c = end - c
 
-choices-requires : tie.Need-choices-requires Inv-loop μ-loop
-choices-requires c κs = tt
-
 loop-holds : tie.Need-loop-holds Inv-loop μ-loop
 loop-holds c = refl
-
-drop-of-requires : tie.Need-drop-of-requires Inv-loop μ-loop
-drop-of-requires c κs = tt
-
-put-drop-requires : tie.Need-put-drop-requires Inv-loop μ-loop
-put-drop-requires c κs = tt
 
 add-c : tie.Need-add-c Inv-loop μ-loop
 add-c c = omega arith
@@ -36,21 +27,18 @@ loop-again c = c .before .before .put-drop .kept .0 ∙ c .before .before .befor
 same-length : tie.Need-same-length Inv-loop μ-loop
 same-length c = c .before .loop .inv
 
-returns : tie.Need-returns Inv-loop μ-loop
-returns c = tt
-
 pub write-drops-spec : {M : Type 1} → statement M
 write-drops-spec =
     tie.close
     (tie.spec
     Inv-loop
     μ-loop
-    choices-requires
+    (λ _ _. tt)
     loop-holds
-    drop-of-requires
-    put-drop-requires
+    (λ _ _. tt)
+    (λ _ _. tt)
     add-c
     loop-less
     loop-again
     same-length
-    returns)
+    (λ _. tt))

@@ -15,12 +15,6 @@ abbrev μ-loop : tie.MeasureT-loop
 loop-holds : tie.Need-loop-holds Inv-loop μ-loop
 loop-holds c = refl
 
-mark-of-requires : tie.Need-mark-of-requires Inv-loop μ-loop
-mark-of-requires c κs = tt
-
-put-mark-requires : tie.Need-put-mark-requires Inv-loop μ-loop
-put-mark-requires c κs = tt
-
 add-c : tie.Need-add-c Inv-loop μ-loop
 add-c c = omega arith
 
@@ -33,9 +27,6 @@ loop-again c = c .before .before .put-mark .kept .0 ∙ c .before .before .befor
 same-length : tie.Need-same-length Inv-loop μ-loop
 same-length c = c .before .loop .inv
 
-returns : tie.Need-returns Inv-loop μ-loop
-returns c = tt
-
 pub write-marks-spec : {M : Type 1} → statement M
 write-marks-spec =
     tie.close
@@ -43,10 +34,10 @@ write-marks-spec =
     Inv-loop
     μ-loop
     loop-holds
-    mark-of-requires
-    put-mark-requires
+    (λ _ _. tt)
+    (λ _ _. tt)
     add-c
     loop-less
     loop-again
     same-length
-    returns)
+    (λ _. tt))

@@ -10,26 +10,11 @@ Inv-loop words n count₀ v₀ count v = Unit
 abbrev μ-loop : tie.MeasureT-loop
 μ-loop words n count₀ v₀ count v = n - v
 
-loop-holds : tie.Need-loop-holds Inv-loop μ-loop
-loop-holds c = tt
-
-variable-requires : tie.Need-variable-requires Inv-loop μ-loop
-variable-requires c κs = tt
-
-add-requires : tie.Need-add-requires Inv-loop μ-loop
-add-requires c κs = omega arith
-
 add-v : tie.Need-add-v Inv-loop μ-loop
 add-v c = omega arith
 
 loop-less : tie.Need-loop-less Inv-loop μ-loop
 loop-less c = omega arith
-
-loop-again : tie.Need-loop-again Inv-loop μ-loop
-loop-again c = tt
-
-returns : tie.Need-returns Inv-loop μ-loop
-returns c = tt
 
 pub choices-below-spec : {M : Type 1} → statement M
 choices-below-spec =
@@ -37,10 +22,10 @@ choices-below-spec =
     (tie.spec
     Inv-loop
     μ-loop
-    loop-holds
-    variable-requires
-    add-requires
+    (λ _. tt)
+    (λ _ _. tt)
+    (λ _ _. tt)
     add-v
     loop-less
-    loop-again
-    returns)
+    (λ _. tt)
+    (λ _. tt))

@@ -15,9 +15,6 @@ abbrev μ-loop : tie.MeasureT-loop
 loop-holds : tie.Need-loop-holds Inv-loop μ-loop
 loop-holds c = refl
 
-word-of-requires : tie.Need-word-of-requires Inv-loop μ-loop
-word-of-requires c κs = tt
-
 mul-words : tie.Need-mul-words Inv-loop μ-loop
 mul-words c = omega arith
 
@@ -33,9 +30,6 @@ loop-less c = omega arith
 loop-again : tie.Need-loop-again Inv-loop μ-loop
 loop-again c = simp length-set (c .before .before .loop .inv)
 
-returns : tie.Need-returns Inv-loop μ-loop
-returns c = tt
-
 pub decode-spec : {M : Type 1} → statement M
 decode-spec =
     tie.close
@@ -43,10 +37,10 @@ decode-spec =
     Inv-loop
     μ-loop
     loop-holds
-    word-of-requires
+    (λ _ _. tt)
     mul-words
     array-write-words
     add-i
     loop-less
     loop-again
-    returns)
+    (λ _. tt))

@@ -10,26 +10,11 @@ Inv-loop words n product₀ v₀ product v = Unit
 abbrev μ-loop : tie.MeasureT-loop
 μ-loop words n product₀ v₀ product v = n - v
 
-loop-holds : tie.Need-loop-holds Inv-loop μ-loop
-loop-holds c = tt
-
-variable-requires : tie.Need-variable-requires Inv-loop μ-loop
-variable-requires c κs = tt
-
-mul-requires : tie.Need-mul-requires Inv-loop μ-loop
-mul-requires c κs = tt
-
 add-v : tie.Need-add-v Inv-loop μ-loop
 add-v c = omega arith
 
 loop-less : tie.Need-loop-less Inv-loop μ-loop
 loop-less c = omega arith
-
-loop-again : tie.Need-loop-again Inv-loop μ-loop
-loop-again c = tt
-
-returns : tie.Need-returns Inv-loop μ-loop
-returns c = tt
 
 pub scale-below-spec : {M : Type 1} → statement M
 scale-below-spec =
@@ -37,10 +22,10 @@ scale-below-spec =
     (tie.spec
     Inv-loop
     μ-loop
-    loop-holds
-    variable-requires
-    mul-requires
+    (λ _. tt)
+    (λ _ _. tt)
+    (λ _ _. tt)
     add-v
     loop-less
-    loop-again
-    returns)
+    (λ _. tt)
+    (λ _. tt))
