@@ -19,8 +19,8 @@ use crate::table::variable;
 use crate::table::variables;
 use crate::table::word_at;
 
-// All checks of a service but 31 and 32. A service that has no input for one hands in what passes
-// it: marks of at least 1 for the score, else 0; percent 0; kits 0; the plan's own length.
+// All checks but 31 and 32. `least` is the least mark: 1 for the score, else 0. A service without
+// percent or kits hands in 0, and one without a buffer the plan's own length.
 pub fn check(
     file: &[u8],
     words: &[u64; 320],
