@@ -1,0 +1,39 @@
+-- `counter::scores::score_of` is safe and ends: its loop counts `holding` up to `end`. Assumes nothing.
+use Prim.Native.Nat.{_-_}
+use native.Mathlib.Omega.{arith}
+use Rattle.counter.proofs.scores.score_of.Statement.{statement}
+use Rattle.counter.proofs.scores.score_of.Tie as tie
+
+abbrev Inv-loop : tie.InvT-loop
+Inv-loop words full root end sum₀ holding₀ sum holding = Unit
+
+abbrev μ-loop : tie.MeasureT-loop
+μ-loop words full root end sum₀ holding₀ sum holding = end - holding
+
+add-holding : tie.Need-add-holding Inv-loop μ-loop
+add-holding c = omega arith
+
+loop-less : tie.Need-loop-less Inv-loop μ-loop
+loop-less c = omega arith
+
+pub score-of-spec : {M : Type 1} → statement M
+score-of-spec =
+    tie.close
+    (tie.spec
+    Inv-loop
+    μ-loop
+    (λ _ _. tt)
+    (λ _ _. tt)
+    (λ _ _. tt)
+    (λ _ _. tt)
+    (λ _ _. tt)
+    (λ _ _. tt)
+    (λ _. tt)
+    (λ _ _. tt)
+    (λ _ _. tt)
+    (λ _ _. tt)
+    (λ _ _. tt)
+    add-holding
+    loop-less
+    (λ _. tt)
+    (λ _. tt))
