@@ -2,9 +2,8 @@
 mod jigbalo;
 
 /// (line 0 and event 1) or (line 1 and event 3), events 1/2 and 6/10
-const TABLE: [u32; 9] = [
-    0x11002000, 0x20000000, 0x30400802, 0x20800000, 0x30C0300A, 0x40C00800, 0x40801000, 0x40400803, 0x40002003,
-];
+const TABLE: [u32; 9] =
+    [0x11002000, 0x20000000, 0x30400802, 0x20800000, 0x30C0300A, 0x40C00800, 0x40801000, 0x40400803, 0x40002003];
 
 fn show<A>(service: &str, answer: Result<A, jigbalo::Refusal>, text: impl Fn(A) -> String) {
     match answer {
