@@ -1,4 +1,4 @@
--- A service's outcome as the numbers that a function of another language is handed: the result, and what stands at each place that it lends.
+-- A service's outcome as what a program in another language is handed: the result, and each number behind a reference that it lends.
 use Prim.Native.Nat.{ℕ}
 use Rattle.diagram.specs.Services.{Outcome, refused, answered}
 
