@@ -1,0 +1,135 @@
+//! The time of a read, of a sweep and of a search per visit, the library beside the plain Rust.
+use std::hint::black_box;
+use std::time::Duration;
+
+use crate::jigbalo::{self, Finding, Refusal};
+use crate::plain::{self, Form};
+use crate::tables::{self, Draft, Random};
+
+const OPEN: [u8; 20] = [0; 20];
+
+/// A table with 20 choices, to be searched from the fully open plan.
+struct Job {
+    name: &'static str,
+    draft: Draft,
+    kits: u32,
+    visits: u64,
+}
+
+fn visits(file: &[u8], kits: u32) -> u64 {
+    plain::search(Form::Layers, file, &OPEN, kits, 0, &mut [0; 20]).map_or(0, |f| f.visits)
+}
+
+/// Whether so many visits are about as many as wanted, a fifth more or less.
+fn about(visits: u64, wanted: u64) -> bool {
+    (wanted * 8..=wanted * 12).contains(&(visits * 10))
+}
+
+fn threshold(needed: usize, kits: u32) -> Job {
+    let draft = tables::threshold(20, needed, 3, 5);
+    let visits = visits(&draft.file(), kits);
+    Job { name: "threshold", draft, kits, visits }
+}
+
+/// The first made network of which the root leads to 200 records and that is searched in about so many visits.
+fn layered(wanted: u64) -> Job {
+    let mut drafts = (1..).map(|seed| tables::layered(&mut Random::new(seed))).filter(|draft| draft.reached() >= 200);
+    let job = drafts.find_map(|draft| {
+        let file = draft.file();
+        let (kits, visits) = (3..=20).map(|kits| (kits, visits(&file, kits))).find(|x| about(x.1, wanted))?;
+        Some(Job { name: "layered", draft, kits, visits })
+    });
+    job.unwrap()
+}
+
+/// The processor time of this thread, so that what else the machine does counts little.
+fn processor_time() -> Duration {
+    #[repr(C)]
+    struct Timespec {
+        seconds: i64,
+        nanoseconds: i64,
+    }
+    unsafe extern "C" {
+        fn clock_gettime(clock: i32, time: *mut Timespec) -> i32;
+    }
+    const CLOCK_THREAD_CPUTIME_ID: i32 = 3;
+    let mut t = Timespec { seconds: 0, nanoseconds: 0 };
+    assert_eq!(unsafe { clock_gettime(CLOCK_THREAD_CPUTIME_ID, &mut t) }, 0);
+    Duration::new(t.seconds as u64, t.nanoseconds as u32)
+}
+
+/// Nanoseconds of `run(i)` for each i below N: the least of several rounds, in each of which every i has its turn of so
+/// many calls.
+fn times<const N: usize>(rounds: usize, calls: u32, mut run: impl FnMut(usize)) -> [f64; N] {
+    let mut least = [f64::INFINITY; N];
+    for _ in 0..rounds {
+        for (i, least) in least.iter_mut().enumerate() {
+            let start = processor_time();
+            for _ in 0..calls {
+                run(i);
+            }
+            *least = least.min((processor_time() - start).as_nanos() as f64 / calls as f64);
+        }
+    }
+    least
+}
+
+/// The library's search, or a plain one.
+fn search(form: Option<Form>, file: &[u8], kits: u32) -> (Result<Finding, Refusal>, [u8; 20]) {
+    let mut plan = [0; 20];
+    let answer = match form {
+        None => jigbalo::search(file, &OPEN, kits, 0, &mut plan),
+        Some(form) => plain::search(form, file, &OPEN, kits, 0, &mut plan),
+    };
+    (answer, plan)
+}
+
+const FORMS: [Option<Form>; 4] = [None, Some(Form::PassUp), Some(Form::Layers), Some(Form::Sweeps)];
+
+fn line(job: &Job) {
+    let file = &job.draft.file()[..];
+    let answers = FORMS.map(|form| search(form, file, job.kits));
+    assert!(answers[1..].iter().all(|other| *other == answers[0]), "{answers:?}");
+    assert!(answers[0].0.is_ok_and(|found| found.visits == job.visits));
+
+    let [read, plain_read] = times(200, 50, |i| {
+        let file = black_box(file);
+        black_box(if i == 0 { jigbalo::read(file) } else { plain::read(file) }).ok();
+    });
+    let mut drops = [0; 20];
+    let [sweep, plain_sweep] = times(200, 50, |i| {
+        let file = black_box(file);
+        let top = if i == 0 { jigbalo::sweep(file, &OPEN, &mut drops) } else { plain::sweep(file, &OPEN, &mut drops) };
+        black_box(top).ok();
+    });
+    let rounds = (1_000_000 / job.visits as usize).clamp(5, 60);
+    let [library, up, layers, sweeps] = times(rounds, 1, |i| {
+        black_box(search(FORMS[i], black_box(file), job.kits)).0.ok();
+    })
+    .map(|x| x / job.visits as f64);
+
+    print!("{:<9} {:>7} {:>4} {:>7}", job.name, job.draft.records.len(), job.kits, job.visits);
+    for (ours, theirs) in [(read, plain_read), (sweep, plain_sweep)] {
+        print!(" | {:>7.1} {:>5.1} {:>5.2}", ours / 1e3, theirs / 1e3, ours / theirs);
+    }
+    print!(" | {library:>7.0}");
+    for theirs in [up, layers, sweeps] {
+        print!(" {theirs:>7.0} {:>5.2}", library / theirs);
+    }
+    println!();
+}
+
+/// A line for each job. A ratio is the library's time over the time before it.
+pub fn table() {
+    println!("{:<30} | {:<19} | {:<19} | search, ns a visit", "", "read, µs", "sweep, µs");
+    println!(
+        "job       records kits  visits | library plain ratio | library plain ratio | library \
+         pass up ratio  layers ratio  sweeps ratio"
+    );
+    for (needed, kits) in [(10, 3), (10, 5), (8, 9)] {
+        line(&threshold(needed, kits));
+    }
+    for wanted in [10_000, 100_000, 1_000_000] {
+        line(&layered(wanted));
+    }
+}

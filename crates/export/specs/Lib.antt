@@ -1,0 +1,2 @@
+-- What the exported functions hand back, as numbers.
+pub mod Numbers

@@ -1,0 +1,45 @@
+/* Jigbalo's five services, as the crate export has them.
+
+   A function returns 0 where the request is answered, and writes its values; else it returns the refusal's number of document 01 and
+   writes its place. Whatever is not written is left as it was, every buffer of a refused request included.
+
+   A slice is a pointer and a length in elements. No pointer is null, of an empty slice neither; what is written overlaps nothing else that
+   is handed in. Any bytes, numbers and lengths may be handed in: there is nothing else to see to. A call takes some 250 KiB of stack and
+   no heap, keeps nothing, and may be made from any thread.
+
+   A plan has one byte a choice: 0 open, 1 taken, 2 left. */
+#ifndef JIGBALO_H
+#define JIGBALO_H
+
+#include <stddef.h>
+#include <stdint.h>
+
+#ifdef __cplusplus
+extern "C" {
+#endif
+
+/* V, N, the number of choices and B of a table. */
+uint64_t jigbalo_read(const uint8_t *file, size_t file_length,
+                      uint64_t *place, uint64_t *variables, uint64_t *records, uint64_t *choices, uint64_t *scale);
+
+/* The score of a full plan. */
+uint64_t jigbalo_score(const uint8_t *file, size_t file_length, const uint8_t *plan, size_t plan_length,
+                       uint64_t *place, uint64_t *score);
+
+/* The top of a plan; the drop of each choice is written to drops, one number a choice. */
+uint64_t jigbalo_sweep(const uint8_t *file, size_t file_length, const uint8_t *plan, size_t plan_length,
+                       uint64_t *drops, size_t drops_length, uint64_t *place, uint64_t *top);
+
+/* How many lines the percentage forces; the plan with these taken is written to out, one byte a choice. */
+uint64_t jigbalo_filter(const uint8_t *file, size_t file_length, const uint8_t *plan, size_t plan_length,
+                        uint32_t percent, uint8_t *out, size_t out_length, uint64_t *place, uint64_t *forced);
+
+/* The score of the first candidate in the ranking, and the visits; the candidate is written to out, one byte a choice. */
+uint64_t jigbalo_search(const uint8_t *file, size_t file_length, const uint8_t *plan, size_t plan_length,
+                        uint32_t kits, uint32_t percent, uint8_t *out, size_t out_length,
+                        uint64_t *place, uint64_t *score, uint64_t *visits);
+
+#ifdef __cplusplus
+}
+#endif
+#endif
