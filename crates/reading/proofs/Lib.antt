@@ -3,6 +3,6 @@ pub mod Counting
 pub mod Shape
 pub mod Columns
 pub mod Pairing
-pub mod Queue
+pub mod Stacking
 pub mod Outcomes
 pub mod Accepted

@@ -18,10 +18,10 @@ use Rattle.diagram.specs.Checks.{positionOf, isMonotoneAt}
 use Rattle.diagram.proofs.Places.{sequence-at, sequence-past}
 use Rattle.diagram.proofs.Truth.{Formed}
 use Rattle.diagram.proofs.Locality.{position-le, position-less}
-use Rattle.diagram.proofs.Implication.{hiOf, loOf, follow, follow-le, follow-less, implies-split}
-use Rattle.reading.specs.Nodes.{column, recordsOf, endOf, Pairs, Held, next}
+use Rattle.diagram.proofs.Implication.{hiOf, loOf, follow, follow-le, follow-less, follow-later, implies-split}
+use Rattle.reading.specs.Nodes.{column, recordsOf, endOf, Pairs, Held, next, smaller}
 use Rattle.reading.proofs.Counting.{variables-length}
-use Rattle.reading.proofs.Shape.{heading-records, record-past, shaped-formed}
+use Rattle.reading.proofs.Shape.{heading-variables, heading-records, record-past, shaped-formed}
 
 -- ---------------------------------------------------------------------------
 -- The records that arrays hold
@@ -123,12 +123,15 @@ module _ {v : ℕ} {rs : List Record} (h : Formed v rs) (m n x : ℕ) (met : m <
       (λ g. let e : positionOf v rs n ≡ x = omega arith in omega (arith, rw e at (follow-less h b n (omega arith))))
       (eq-or-lt-of-le {n = x} {m = positionOf v rs m} (omega arith))
 
+  -- the pair that they lead to stands later
+  pair-later : (b : Bool) → x < min (positionOf v rs (follow v rs x b m)) (positionOf v rs (follow v rs x b n))
+  pair-later b =
+      let m-later = follow-later h x b m first-less (omega arith) in
+      let n-later = follow-later h x b n first-less (omega arith) in
+      omega arith
+
   pair-split : implies v rs m n ≡ (implies v rs (follow v rs x true m) (follow v rs x true n) && implies v rs (follow v rs x false m) (follow v rs x false n))
   pair-split = implies-split h x m n first-less (omega arith) (omega arith)
-
--- the smaller position of two nodes, as the arrays have it
-abbrev smaller : List ℕ → (m n : ℕ) → ℕ
-smaller ps m n = min (getD ps m 0) (getD ps n 0)
 
 -- a node moves on where it stands at the smaller position
 moves : (p q x : ℕ) → x ≡ min p q → eqb p x ≡ leb p q
@@ -168,10 +171,27 @@ module _ {ps hs ls : List ℕ} {m n : ℕ} (h : Meets ps hs ls m n) where
   pub next-less : (b : Bool) → next ps (cond b hs ls) m n + next ps (cond b hs ls) n m < m + n
   next-less b = rw (← m-next b, ← n-next b) (pair-less (h .pairs .formed) m n _ (h .met) first-held b)
 
+  -- the pair that they lead to stands later
+  pub next-later : (b : Bool) → smaller ps m n < smaller ps (next ps (cond b hs ls) m n) (next ps (cond b hs ls) n m)
+  next-later b =
+      let m-small = h .m-small in
+      let n-small = h .n-small in
+      let m-le = next-le b .0 in
+      let n-le = next-le b .1 in
+      let m-held = position-held ps hs ls (h .pairs .ends) (next ps (cond b hs ls) m n) (omega arith) in
+      let n-held = position-held ps hs ls (h .pairs .ends) (next ps (cond b hs ls) n m) (omega arith) in
+      let later = pair-later (h .pairs .formed) m n (smaller ps m n) (h .met) first-held b in
+      rw (m-held, n-held) at (rw (m-next b, n-next b) at later)
+
   -- m implies n where both pairs that they lead to do
   pub next-split : implies (endOf ps) (recordsOf ps hs ls) m n ≡ (implies (endOf ps) (recordsOf ps hs ls) (next ps hs m n) (next ps hs n m) && implies (endOf ps) (recordsOf ps hs ls) (next ps ls m n) (next ps ls n m))
   next-split =
       rw (← m-next true, ← n-next true, ← m-next false, ← n-next false) (pair-split (h .pairs .formed) m n _ (h .met) first-held)
+
+-- every position is at most 60
+pub position-few : {ps hs ls : List ℕ} → Pairs ps hs ls → (n : ℕ) → n < 256 → getD ps n 0 ≤ 60
+position-few {ps} {hs} {ls} h n l =
+    omega (arith, h .few, position-le (h .formed) n, position-held ps hs ls (h .ends) n l)
 
 -- ---------------------------------------------------------------------------
 -- The arrays of a file
@@ -214,6 +234,7 @@ module _ {s ps hs ls : List ℕ} (h : Held s ps hs ls) where
       record {
         formed = rw held-end (formed-alike _ _ (λ k. sym (held-records k)) (shaped-formed s (h .shaped)));
         ends = held-ends;
+        few = omega (arith, held-end, heading-variables s (h .shaped .heading));
         highEnds = λ n l. rw (h .high) (column-ends _ _ n l);
         lowEnds = λ n l. rw (h .low) (column-ends _ _ n l);
       }

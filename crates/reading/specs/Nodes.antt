@@ -1,5 +1,5 @@
--- The arrays by node number that a table's records are copied to, and the queue of pairs of nodes.
-use Prim.Native.Nat.{ℕ, zero, suc, _+_, _*_, _≤_, _<_}
+-- The arrays by node number that a table's records are copied to, and the stack of pairs of nodes.
+use Prim.Native.Nat.{ℕ, zero, suc, _+_, _*_, _≤_, _<_, min}
 use mathlib.Core.Path.{_≡_}
 use mathlib.Core.Bool.{true, false, cond}
 use mathlib.Core.Logic.{_⊎_}
@@ -38,16 +38,22 @@ pub record Held (s ps hs ls : List ℕ) : Type 0 where
   pub high : hs ≡ column 0 (λ (r : Record). r .hi) (tableOf s .records)
   pub low : ls ≡ column 0 (λ (r : Record). r .lo) (tableOf s .records)
 
--- What passing a pair on needs: arrays that hold records as check 17 wants them, both ends at one position, and 0 for the ends' children
+-- What passing a pair on needs: arrays that hold records as check 17 wants them, both ends at one position, which is at most
+-- 60, and 0 for the ends' children
 pub record Pairs (ps hs ls : List ℕ) : Type 0 where
   pub formed : Formed (endOf ps) (recordsOf ps hs ls)
   pub ends : getD ps 1 0 ≡ endOf ps
+  pub few : endOf ps ≤ 60
   pub highEnds : (n : ℕ) → n < 2 → getD hs n 0 ≡ 0
   pub lowEnds : (n : ℕ) → n < 2 → getD ls n 0 ≡ 0
 
 -- Where m of the pair m, n leads to by the children in cs: to its child, unless n stands at a smaller position
 abbrev pub next : (ps cs : List ℕ) → (m n : ℕ) → ℕ
 next ps cs m n = cond (leb (getD ps m 0) (getD ps n 0)) (getD cs m 0) m
+
+-- The smaller position of two nodes
+abbrev pub smaller : List ℕ → (m n : ℕ) → ℕ
+smaller ps m n = min (getD ps m 0) (getD ps n 0)
 
 -- The cell of a pair of nodes: 1 where the pair has been met or was marked at the start, and else 0
 abbrev pub cell : List ℕ → (m n : ℕ) → ℕ
@@ -69,41 +75,41 @@ pub record OnlyKnown (met : List ℕ) : Type 0 where
   pub bits : (i : ℕ) → getD met i 0 ≤ 1
   pub known : (m n : ℕ) → m < 256 → n < 256 → cell met m n ≡ 1 → AtOnce m n
 
--- There is room for every pair that has not been met
-pub record Room (met firsts seconds : List ℕ) (tail : ℕ) : Type 0 where
+-- The stack has at most 62 pairs, so that there is room for one more
+pub record Room (met firsts seconds : List ℕ) (depth : ℕ) : Type 0 where
   pub size : length met ≡ 65536
-  pub firstsSize : length firsts ≡ 65536
-  pub secondsSize : length seconds ≡ 65536
+  pub firstsSize : length firsts ≡ 128
+  pub secondsSize : length seconds ≡ 128
   pub bits : (i : ℕ) → getD met i 0 ≤ 1
-  pub left : tail + zeros met ≤ 65535
+  pub shallow : depth ≤ 62
 
 -- Both pairs that m, n leads to have been met
 pub record PassedOn (ps hs ls met : List ℕ) (m n : ℕ) : Type 0 where
   pub high : cell met (next ps hs m n) (next ps hs n m) ≡ 1
   pub low : cell met (next ps ls m n) (next ps ls n m) ≡ 1
 
--- The pair m, n stands in the queue, from head on
-pub record Waits (firsts seconds : List ℕ) (head tail m n : ℕ) : Type 0 where
+-- The pair m, n stands on the stack
+pub record Waits (firsts seconds : List ℕ) (depth m n : ℕ) : Type 0 where
   pub slot : ℕ
-  pub from : head ≤ slot
-  pub below : slot < tail
+  pub below : slot < depth
   pub first : getD firsts slot 0 ≡ m
   pub second : getD seconds slot 0 ≡ n
 
--- The queue of the pairs met: those from head up to tail are still to be passed on, and all pairs met imply if the pair a, b does
-pub record Queue (ps hs ls met firsts seconds : List ℕ) (a b head tail : ℕ) : Type 0 where
+-- The stack of the pairs met: those on it are still to be passed on, as is the pair m, n that has been taken off last (0, 0 where
+-- there is none), a pair with j others under it stands at position j - 1 or later, and all pairs met imply if the pair a, b does
+pub record Stack (ps hs ls met firsts seconds : List ℕ) (a b m n depth : ℕ) : Type 0 where
   pub pairs : Pairs ps hs ls
-  pub room : Room met firsts seconds tail
-  pub order : head ≤ tail
+  pub room : Room met firsts seconds depth
   pub asked : cell met a b ≡ 1
   pub origin : cell met 0 0 ≡ 1
-  pub small : (j : ℕ) → head ≤ j → j < tail → (getD firsts j 0 < 256) × (getD seconds j 0 < 256)
-  pub waiting : (j : ℕ) → head ≤ j → j < tail → cell met (getD firsts j 0) (getD seconds j 0) ≡ 1
-  pub traced : (m n : ℕ) → m < 256 → n < 256 → cell met m n ≡ 1 → AtOnce m n ⊎ (PassedOn ps hs ls met m n ⊎ Waits firsts seconds head tail m n)
-  pub right : implies (endOf ps) (recordsOf ps hs ls) a b ≡ true → (m n : ℕ) → m < 256 → n < 256 → cell met m n ≡ 1 → implies (endOf ps) (recordsOf ps hs ls) m n ≡ true
+  pub small : (j : ℕ) → j < depth → (getD firsts j 0 < 256) × (getD seconds j 0 < 256)
+  pub waiting : (j : ℕ) → j < depth → cell met (getD firsts j 0) (getD seconds j 0) ≡ 1
+  pub deep : (j : ℕ) → j < depth → j ≤ smaller ps (getD firsts j 0) (getD seconds j 0) + 1
+  pub traced : (p q : ℕ) → p < 256 → q < 256 → cell met p q ≡ 1 → AtOnce p q ⊎ (PassedOn ps hs ls met p q ⊎ (Waits firsts seconds depth p q ⊎ ((p ≡ m) × (q ≡ n))))
+  pub right : implies (endOf ps) (recordsOf ps hs ls) a b ≡ true → (p q : ℕ) → p < 256 → q < 256 → cell met p q ≡ 1 → implies (endOf ps) (recordsOf ps hs ls) p q ≡ true
 
 -- What passing on all pairs that record k leads to gives: the pair of true and false is met where the record is not
 -- monotone, and else all pairs met imply
-pub record Explored (s ps hs ls met firsts seconds : List ℕ) (k tail : ℕ) : Type 0 where
+pub record Explored (s ps hs ls met firsts seconds : List ℕ) (k : ℕ) : Type 0 where
   pub fault : (getD met 256 0 ≡ 0 → ⊥) → isMonotoneAt (tableOf s) k ≡ false
-  pub passes : getD met 256 0 ≡ 0 → (isMonotoneAt (tableOf s) k ≡ true) × Queue ps hs ls met firsts seconds 0 0 tail tail
+  pub passes : getD met 256 0 ≡ 0 → (isMonotoneAt (tableOf s) k ≡ true) × Stack ps hs ls met firsts seconds 0 0 0 0 0

@@ -1,7 +1,8 @@
 // Check 18: at every choice record the low child implies the high one, under every assignment of the variables.
 // A pair of nodes implies where both pairs that it leads to at the smaller position of the two do. So each choice record's pair
-// is put into a queue, each pair of the queue puts in the two that it leads to, unless they have been met, and a record is at
-// fault where the pair of true and false is met.
+// is put on a stack, the pair on top is taken off and the two that it leads to are put on, unless they have been met, until the
+// stack is empty, and a record is at fault where the pair of true and false is met. A pair leads to pairs at later positions,
+// so that the stack has at most two pairs more than the table has variables.
 use crate::answer::Fault;
 use crate::nodes::child_of;
 use crate::nodes::decode;
@@ -12,12 +13,12 @@ use crate::words::variable_count;
 use diagram::Node;
 use diagram::Position;
 ghost use mathlib.Core.Path.{_≡_};
-ghost use Prim.Native.Nat.{ℕ, _+_, _-_, _*_, _<_};
+ghost use Prim.Native.Nat.{ℕ, suc, _+_, _-_, _*_, _<_};
 ghost use lib.ListN.{getD, set, replicate};
 ghost use Rattle.diagram.specs.Table.{recordCount};
 ghost use Rattle.diagram.specs.Checks.{monotoneFault};
 ghost use Rattle.reading.specs.Answer.{faultOf};
-ghost use Rattle.reading.specs.Nodes.{Shaped, Held, next, cell, OnlyKnown, Room, Queue, Explored};
+ghost use Rattle.reading.specs.Nodes.{Shaped, Held, next, cell, zeros, OnlyKnown, Room, Stack, Explored};
 
 // Check 18. The checks before have shown what is required.
 pub fn monotone_fault(file: &[u8]) -> Fault
@@ -28,8 +29,8 @@ pub fn monotone_fault(file: &[u8]) -> Fault
     let mut high = [0u8; 256];
     let mut low = [0u8; 256];
     let mut met = [0u8; 65536];
-    let mut firsts = [0u8; 65536];
-    let mut seconds = [0u8; 65536];
+    let mut firsts = [0u8; 128];
+    let mut seconds = [0u8; 128];
     decode(file, &mut positions, &mut high, &mut low);
     mark_known(&mut met);
     first_fault(
@@ -62,21 +63,20 @@ fn mark_known(met: &mut [u8; 65536])
 fn first_fault(
     file: &[u8],
     met: &mut [u8; 65536],
-    firsts: &mut [u8; 65536],
-    seconds: &mut [u8; 65536],
+    firsts: &mut [u8; 128],
+    seconds: &mut [u8; 128],
     positions: &[u8; 256],
     high: &[u8; 256],
     low: &[u8; 256],
 ) -> Fault
-    requires { ⌜ Held (now file) (now positions) (now high) (now low) × Queue (now positions) (now high) (now low) (now met) (now firsts) (now seconds) 0 0 0 0 ⌝ }
+    requires { ⌜ Held (now file) (now positions) (now high) (now low) × Stack (now positions) (now high) (now low) (now met) (now firsts) (now seconds) 0 0 0 0 0 ⌝ }
     ensures { λ r. ⌜ r ≡ faultOf (monotoneFault (now (file .entry))) ⌝ }
 {
     let end = Position::new(variable_count(file));
     let n = record_count(file);
-    let mut tail = 0;
     let mut k = 0;
     while k < n {
-        tail = explore_record(file, met, firsts, seconds, positions, high, low, k, tail);
+        explore_record(file, met, firsts, seconds, positions, high, low, k);
         if met[256] != 0 {
             return Fault::At(end.word() + k);
         }
@@ -89,77 +89,73 @@ fn first_fault(
 fn explore_record(
     file: &[u8],
     met: &mut [u8; 65536],
-    firsts: &mut [u8; 65536],
-    seconds: &mut [u8; 65536],
+    firsts: &mut [u8; 128],
+    seconds: &mut [u8; 128],
     positions: &[u8; 256],
     high: &[u8; 256],
     low: &[u8; 256],
     k: usize,
-    tail: usize,
-) -> usize
-    requires { ⌜ Held (now file) (now positions) (now high) (now low) × (k < recordCount (now file)) × Queue (now positions) (now high) (now low) (now met) (now firsts) (now seconds) 0 0 tail tail ⌝ }
-    ensures { λ r. ⌜ Explored (now (file .entry)) (now (positions .entry)) (now (high .entry)) (now (low .entry)) (now (met .exit)) (now (firsts .exit)) (now (seconds .exit)) k r ⌝ }
+)
+    requires { ⌜ Held (now file) (now positions) (now high) (now low) × (k < recordCount (now file)) × Stack (now positions) (now high) (now low) (now met) (now firsts) (now seconds) 0 0 0 0 0 ⌝ }
+    ensures { λ _. ⌜ Explored (now (file .entry)) (now (positions .entry)) (now (high .entry)) (now (low .entry)) (now (met .exit)) (now (firsts .exit)) (now (seconds .exit)) k ⌝ }
 {
     let node = Node::of_record(k);
     if !is_choice(file, position_of(positions, node)) {
-        return tail;
+        return;
     }
-    let end = meet(
+    let depth = meet(
         met,
         firsts,
         seconds,
-        tail,
+        0,
         child_of(low, node),
         child_of(high, node),
     );
-    explore(met, firsts, seconds, positions, high, low, tail, end)
+    explore(met, firsts, seconds, positions, high, low, depth);
 }
 
-// Passes on every pair from start on, and those that are met on the way. Answers the new end of the queue.
+// Passes on every pair of the stack, and those that are met on the way, until the stack is empty.
 fn explore(
     met: &mut [u8; 65536],
-    firsts: &mut [u8; 65536],
-    seconds: &mut [u8; 65536],
+    firsts: &mut [u8; 128],
+    seconds: &mut [u8; 128],
     positions: &[u8; 256],
     high: &[u8; 256],
     low: &[u8; 256],
     start: usize,
-    end: usize,
-) -> usize
-    requires { ⌜ ((a : ℕ) × (b : ℕ) × Queue (now positions) (now high) (now low) (now met) (now firsts) (now seconds) a b start end) ⌝ }
-    ensures { λ r. ⌜ ((a b : ℕ) → Queue (now (positions .entry)) (now (high .entry)) (now (low .entry)) (now (met .entry)) (now (firsts .entry)) (now (seconds .entry)) a b start end → Queue (now (positions .entry)) (now (high .entry)) (now (low .entry)) (now (met .exit)) (now (firsts .exit)) (now (seconds .exit)) a b r r) ⌝ }
+)
+    requires { ⌜ ((a : ℕ) × (b : ℕ) × Stack (now positions) (now high) (now low) (now met) (now firsts) (now seconds) a b 0 0 start) ⌝ }
+    ensures { λ _. ⌜ ((a b : ℕ) → Stack (now (positions .entry)) (now (high .entry)) (now (low .entry)) (now (met .entry)) (now (firsts .entry)) (now (seconds .entry)) a b 0 0 start → Stack (now (positions .entry)) (now (high .entry)) (now (low .entry)) (now (met .exit)) (now (firsts .exit)) (now (seconds .exit)) a b 0 0 0) ⌝ }
 {
-    let mut head = start;
-    let mut tail = end;
-    while head < tail {
-        tail = pass_on(met, firsts, seconds, positions, high, low, head, tail);
-        head += 1;
+    let mut depth = start;
+    while depth > 0 {
+        let top = depth - 1;
+        depth = pass_on(met, firsts, seconds, positions, high, low, top);
     }
-    tail
 }
 
-// Meets the two pairs that the pair at head leads to.
+// Takes the pair at top off and meets the two pairs that it leads to. Answers the new depth.
 fn pass_on(
     met: &mut [u8; 65536],
-    firsts: &mut [u8; 65536],
-    seconds: &mut [u8; 65536],
+    firsts: &mut [u8; 128],
+    seconds: &mut [u8; 128],
     positions: &[u8; 256],
     high: &[u8; 256],
     low: &[u8; 256],
-    head: usize,
-    tail: usize,
+    top: usize,
 ) -> usize
-    requires { ⌜ ((a : ℕ) × (b : ℕ) × Queue (now positions) (now high) (now low) (now met) (now firsts) (now seconds) a b head tail × (head < tail)) ⌝ }
-    ensures { λ r. ⌜ ((a b : ℕ) → Queue (now (positions .entry)) (now (high .entry)) (now (low .entry)) (now (met .entry)) (now (firsts .entry)) (now (seconds .entry)) a b head tail → Queue (now (positions .entry)) (now (high .entry)) (now (low .entry)) (now (met .exit)) (now (firsts .exit)) (now (seconds .exit)) a b (head + 1) r) ⌝ }
+    requires { ⌜ ((a : ℕ) × (b : ℕ) × Stack (now positions) (now high) (now low) (now met) (now firsts) (now seconds) a b 0 0 (suc top)) ⌝ }
+    ensures stack { λ r. ⌜ ((a b : ℕ) → Stack (now (positions .entry)) (now (high .entry)) (now (low .entry)) (now (met .entry)) (now (firsts .entry)) (now (seconds .entry)) a b 0 0 (suc top) → Stack (now (positions .entry)) (now (high .entry)) (now (low .entry)) (now (met .exit)) (now (firsts .exit)) (now (seconds .exit)) a b 0 0 r) ⌝ }
+    ensures left { λ r. ⌜ zeros (now (met .exit)) + r ≡ zeros (now (met .entry)) + top ⌝ }
 {
-    let m = Node::new(firsts[head]);
-    let n = Node::new(seconds[head]);
+    let m = Node::new(firsts[top]);
+    let n = Node::new(seconds[top]);
     let high_m = step(positions, high, m, n);
     let high_n = step(positions, high, n, m);
     let low_m = step(positions, low, m, n);
     let low_n = step(positions, low, n, m);
-    let end = meet(met, firsts, seconds, tail, high_m, high_n);
-    meet(met, firsts, seconds, end, low_m, low_n)
+    let depth = meet(met, firsts, seconds, top, high_m, high_n);
+    meet(met, firsts, seconds, depth, low_m, low_n)
 }
 
 // Where m of the pair m, n leads to: its child, unless n stands at a smaller position. The child is read in any case, so that
@@ -173,25 +169,25 @@ fn step(positions: &[u8; 256], children: &[u8; 256], m: Node, n: Node) -> Node
     if p.number() <= q.number() { child } else { m }
 }
 
-// Puts a pair at the queue's end, which moves on only where the pair has not been met before. There is room for every pair.
+// Writes a pair on top of the stack, whose depth rises only where the pair has not been met before.
 fn meet(
     met: &mut [u8; 65536],
-    firsts: &mut [u8; 65536],
-    seconds: &mut [u8; 65536],
-    tail: usize,
+    firsts: &mut [u8; 128],
+    seconds: &mut [u8; 128],
+    depth: usize,
     m: Node,
     n: Node,
 ) -> usize
-    requires { ⌜ Room (now met) (now firsts) (now seconds) tail ⌝ }
-    ensures tail { λ r. ⌜ r ≡ tail + (1 - cell (now (met .entry)) (m .0) (n .0)) ⌝ }
+    requires { ⌜ Room (now met) (now firsts) (now seconds) depth ⌝ }
+    ensures depth { λ r. ⌜ r ≡ depth + (1 - cell (now (met .entry)) (m .0) (n .0)) ⌝ }
     ensures met { λ _. ⌜ now (met .exit) ≡ set (now (met .entry)) (m .0 * 256 + n .0) 1 ⌝ }
-    ensures firsts { λ _. ⌜ now (firsts .exit) ≡ set (now (firsts .entry)) tail (m .0) ⌝ }
-    ensures seconds { λ _. ⌜ now (seconds .exit) ≡ set (now (seconds .entry)) tail (n .0) ⌝ }
+    ensures firsts { λ _. ⌜ now (firsts .exit) ≡ set (now (firsts .entry)) depth (m .0) ⌝ }
+    ensures seconds { λ _. ⌜ now (seconds .exit) ≡ set (now (seconds .entry)) depth (n .0) ⌝ }
 {
     let i = m.number() * 256 + n.number();
-    firsts[tail] = m.byte();
-    seconds[tail] = n.byte();
+    firsts[depth] = m.byte();
+    seconds[depth] = n.byte();
     let fresh = 1 - met[i];
     met[i] = 1;
-    tail + fresh as usize
+    depth + fresh as usize
 }

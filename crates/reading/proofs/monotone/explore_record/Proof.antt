@@ -1,15 +1,15 @@
--- `explore_record` meets its contract: what the queue says at the end, of a record of a choice and of another.
+-- `explore_record` meets its contract: what the stack says at the end, of a record of a choice and of another.
 -- Assumes nothing.
 use native.Mathlib.Omega.{arith}
 use borrow.Author.Tests.{not-true, not-false}
 use Rattle.reading.proofs.Shape.{heading-records}
-use Rattle.reading.proofs.Queue.{Meeting, ask, explored-chance, explored-choice}
+use Rattle.reading.proofs.Stacking.{Meeting, ask, explored-chance, explored-choice}
 use borrow.Author.Needs.{needs}
 use Rattle.reading.proofs.monotone.explore_record.Statement.{statement}
 use Rattle.reading.proofs.monotone.explore_record.Tie as tie
 
 -- the pair of the record's children as it is met
-meeting : (c : tie.After-meet) → Meeting (c .before .before .before .before .before .before .before .before .before .before .before .args .met .now) (c .before .before .before .before .before .before .before .before .before .before .before .args .firsts .now) (c .before .before .before .before .before .before .before .before .before .before .before .args .seconds .now) (c .before .before .before .before .before .before .before .before .before .before .before .args .tail) (c .before .before .child-of .result .0) (c .before .child-of2 .result .0) (c .meet .last .0) (c .meet .last .1 .0) (c .meet .last .1 .1 .0) (c .meet .result)
+meeting : (c : tie.After-meet) → Meeting (c .before .before .before .before .before .before .before .before .before .before .before .args .met .now) (c .before .before .before .before .before .before .before .before .before .before .before .args .firsts .now) (c .before .before .before .before .before .before .before .before .before .before .before .args .seconds .now) 0 (c .before .before .child-of .result .0) (c .before .child-of2 .result .0) (c .meet .last .0) (c .meet .last .1 .0) (c .meet .last .1 .1 .0) (c .meet .result)
 meeting c =
     let e = c .meet .ensures in
     record { m-small = search needs; n-small = search needs; end = e .0; cells = e .1 .0; ones = e .1 .1 .0; twos = e .1 .1 .1 }

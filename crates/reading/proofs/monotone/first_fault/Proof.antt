@@ -8,21 +8,21 @@ use Rattle.diagram.specs.Table.{variableCount, recordCount}
 use Rattle.diagram.specs.Checks.{firstPlace, monotoneFault}
 use Rattle.diagram.proofs.Places.{place-start, place-here, place-next, place-end}
 use Rattle.reading.specs.Answer.{faultOf}
-use Rattle.reading.specs.Nodes.{Queue}
+use Rattle.reading.specs.Nodes.{Stack}
 use Rattle.reading.specs.declared.answer.Fault.the-variants.{At}
 use Rattle.reading.proofs.Pairing.{unmonotone-at, unmonotone-test}
 use Rattle.reading.proofs.monotone.first_fault.Statement.{statement}
 use Rattle.reading.proofs.monotone.first_fault.Tie as tie
 
 abbrev Inv-loop : tie.InvT-loop
-Inv-loop file met₀ firsts₀ seconds₀ positions high low end n tail₀ k₀ met firsts seconds tail k =
+Inv-loop file met₀ firsts₀ seconds₀ positions high low end n k₀ met firsts seconds k =
     (end .0 ≡ variableCount file)
     × (n ≡ recordCount file)
-    × Queue positions high low met firsts seconds 0 0 tail tail
+    × Stack positions high low met firsts seconds 0 0 0 0 0
     × (monotoneFault file ≡ firstPlace (unmonotone-at file) (1 + variableCount file + k) (recordCount file - k))
 
 abbrev μ-loop : tie.MeasureT-loop
-μ-loop file met₀ firsts₀ seconds₀ positions high low end n tail₀ k₀ met firsts seconds tail k = n - k
+μ-loop file met₀ firsts₀ seconds₀ positions high low end n k₀ met firsts seconds k = n - k
 
 variable-count-requires : tie.Need-variable-count-requires Inv-loop μ-loop
 variable-count-requires c κs = search needs

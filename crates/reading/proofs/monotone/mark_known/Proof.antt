@@ -5,7 +5,7 @@ use native.Mathlib.Omega.{arith}
 use mathlib.Core.Path.{_≡_, refl}
 use lib.ListN.{getD}
 use Rattle.reading.specs.Nodes.{OnlyKnown}
-use Rattle.reading.proofs.Queue.{marked-none, mark-turn}
+use Rattle.reading.proofs.Stacking.{marked-none, mark-turn}
 use Rattle.reading.proofs.monotone.mark_known.Statement.{statement}
 use Rattle.reading.proofs.monotone.mark_known.Tie as tie
 

@@ -1,4 +1,4 @@
--- `meet` meets its contract: there is room at the end of the queue. Assumes nothing.
+-- `meet` meets its contract: there is room on the stack. Assumes nothing.
 use Prim.Native.Nat.{ℕ, _+_, _*_}
 use native.Mathlib.Omega.{arith}
 use mathlib.Core.Path.{ap}
@@ -51,7 +51,7 @@ returns c =
     let start = c .before .before .before .before .before in
     let i = c .before .before .before .before .number .ensures in
     let j = c .before .before .before .number2 .ensures in
-    (rw (i, j), (rw (i, j), (ap (λ (x : ℕ). set (start .args .firsts .now) (start .args .tail) x) (c .before .before .byte .ensures), ap (λ (x : ℕ). set (start .args .seconds .now) (start .args .tail) x) (c .before .byte2 .ensures))))
+    (rw (i, j), (rw (i, j), (ap (λ (x : ℕ). set (start .args .firsts .now) (start .args .depth) x) (c .before .before .byte .ensures), ap (λ (x : ℕ). set (start .args .seconds .now) (start .args .depth) x) (c .before .byte2 .ensures))))
 
 pub meet-spec : {M : Type 1} → statement M
 meet-spec =

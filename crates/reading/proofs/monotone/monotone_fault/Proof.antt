@@ -1,8 +1,8 @@
--- `monotone_fault` meets its contract: the arrays hold the file's records, and the queue starts with nothing in it.
+-- `monotone_fault` meets its contract: the arrays hold the file's records, and the stack starts with nothing on it.
 -- Assumes nothing.
 use Rattle.reading.specs.Nodes.{Held}
 use Rattle.reading.proofs.Pairing.{held-pairs}
-use Rattle.reading.proofs.Queue.{start}
+use Rattle.reading.proofs.Stacking.{start}
 use borrow.Author.Needs.{needs}
 use Rattle.reading.proofs.monotone.monotone_fault.Statement.{statement}
 use Rattle.reading.proofs.monotone.monotone_fault.Tie as tie

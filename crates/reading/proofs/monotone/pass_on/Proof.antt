@@ -1,13 +1,12 @@
--- `pass_on` meets its contract: the pairs that the pair at head leads to are met one after the other. Assumes nothing.
-use Prim.Native.Nat.{ℕ}
-use Rattle.reading.specs.Nodes.{Queue}
-use Rattle.reading.proofs.Queue.{Meeting, pass-high, pass}
+-- `pass_on` meets its contract: the pairs that the pair on top leads to are met one after the other. Assumes nothing.
+use Rattle.reading.specs.Nodes.{Room}
+use Rattle.reading.proofs.Stacking.{Meeting, take, pass-high, pass, pass-left}
 use borrow.Author.Needs.{needs}
 use Rattle.reading.proofs.monotone.pass_on.Statement.{statement}
 use Rattle.reading.proofs.monotone.pass_on.Tie as tie
 
 -- the pair by high children, and the pair by low children, as they are met
-high-meeting : (c : tie.After-meet) → Meeting (c .before .before .before .before .before .before .before .before .before .before .before .before .args .met .now) (c .before .before .before .before .before .before .before .before .before .before .before .before .args .firsts .now) (c .before .before .before .before .before .before .before .before .before .before .before .before .args .seconds .now) (c .before .before .before .before .before .before .before .before .before .before .before .before .args .tail) (c .before .before .before .before .before .before .before .step .result .0) (c .before .before .before .before .before .before .step2 .result .0) (c .meet .last .0) (c .meet .last .1 .0) (c .meet .last .1 .1 .0) (c .meet .result)
+high-meeting : (c : tie.After-meet) → Meeting (c .before .before .before .before .before .before .before .before .before .before .before .before .args .met .now) (c .before .before .before .before .before .before .before .before .before .before .before .before .args .firsts .now) (c .before .before .before .before .before .before .before .before .before .before .before .before .args .seconds .now) (c .before .before .before .before .before .before .before .before .before .before .before .before .args .top) (c .before .before .before .before .before .before .before .step .result .0) (c .before .before .before .before .before .before .step2 .result .0) (c .meet .last .0) (c .meet .last .1 .0) (c .meet .last .1 .1 .0) (c .meet .result)
 high-meeting c =
     let e = c .meet .ensures in
     record { m-small = search needs; n-small = search needs; end = e .0; cells = e .1 .0; ones = e .1 .1 .0; twos = e .1 .1 .1 }
@@ -17,9 +16,9 @@ low-meeting c =
     let e = c .meet2 .ensures in
     record { m-small = search needs; n-small = search needs; end = e .0; cells = e .1 .0; ones = e .1 .1 .0; twos = e .1 .1 .1 }
 
--- the queue between the two
-high-met : (c : tie.After-meet) (a b : ℕ) → Queue (c .before .before .before .before .before .before .before .before .before .before .before .before .args .positions .now) (c .before .before .before .before .before .before .before .before .before .before .before .before .args .high .now) (c .before .before .before .before .before .before .before .before .before .before .before .before .args .low .now) (c .before .before .before .before .before .before .before .before .before .before .before .before .args .met .now) (c .before .before .before .before .before .before .before .before .before .before .before .before .args .firsts .now) (c .before .before .before .before .before .before .before .before .before .before .before .before .args .seconds .now) a b (c .before .before .before .before .before .before .before .before .before .before .before .before .args .head) (c .before .before .before .before .before .before .before .before .before .before .before .before .args .tail) → Queue (c .before .before .before .before .before .before .before .before .before .before .before .before .args .positions .now) (c .before .before .before .before .before .before .before .before .before .before .before .before .args .high .now) (c .before .before .before .before .before .before .before .before .before .before .before .before .args .low .now) (c .meet .last .0) (c .meet .last .1 .0) (c .meet .last .1 .1 .0) a b (c .before .before .before .before .before .before .before .before .before .before .before .before .args .head) (c .meet .result)
-high-met c a b h = pass-high h (c .before .before .before .before .before .before .before .before .before .before .before .before .pre .3) (c .before .before .before .before .before .before .before .before .before .before .new .ensures) (c .before .before .before .before .before .before .before .before .new2 .ensures) (c .before .before .before .before .before .before .before .step .ensures) (c .before .before .before .before .before .before .step2 .ensures) (high-meeting c)
+-- there is room for the second
+between : (c : tie.After-meet) → Room (c .meet .last .0) (c .meet .last .1 .0) (c .meet .last .1 .1 .0) (c .meet .result)
+between c = pass-high (c .before .before .before .before .before .before .before .before .before .before .before .before .pre .2) (c .before .before .before .before .before .before .before .before .before .before .new .ensures) (c .before .before .before .before .before .before .before .before .new2 .ensures) (c .before .before .before .before .before .before .before .step .ensures) (c .before .before .before .before .before .before .step2 .ensures) (high-meeting c) .room
 
 element-copy-out-new : tie.Need-element-copy-out-new
 element-copy-out-new c = search needs
@@ -46,15 +45,21 @@ step-requires-4 : tie.Need-step-requires-4
 step-requires-4 c κs = search needs
 
 meet-requires : tie.Need-meet-requires
-meet-requires c κs = search needs
+meet-requires c κs = take (c .before .before .before .before .before .before .before .before .before .before .before .pre .2) (c .before .before .before .before .before .before .before .before .before .new .ensures) (c .before .before .before .before .before .before .before .new2 .ensures) .room
 
 meet-requires-2 : tie.Need-meet-requires-2
-meet-requires-2 c κs = high-met (c .before .before .before) _ _ (c .before .before .before .before .before .before .before .before .before .before .before .before .before .before .before .pre .2) .room
+meet-requires-2 c κs = between (c .before .before .before)
 
 returns : tie.Need-returns
-returns c = λ a b h.
-    let start = c .before .before .before .before .before .before .before .before .before .before .before .before .before .before .before .before in
-    pass h (start .pre .3) (c .before .before .before .before .before .before .before .before .before .before .before .before .before .before .new .ensures) (c .before .before .before .before .before .before .before .before .before .before .before .before .new2 .ensures) (c .before .before .before .before .before .before .before .before .before .before .before .step .ensures) (c .before .before .before .before .before .before .before .before .before .before .step2 .ensures) (high-meeting (c .before .before .before .before)) (c .before .before .before .before .before .before .before .before .before .step3 .ensures) (c .before .before .before .before .before .before .before .before .step4 .ensures) (low-meeting c)
+returns c =
+    let pair = c .before .before .before .before .before .before .before .before .before .before .before .before .before .before .new .ensures in
+    let pair2 = c .before .before .before .before .before .before .before .before .before .before .before .before .new2 .ensures in
+    let hm = c .before .before .before .before .before .before .before .before .before .before .before .step .ensures in
+    let hn = c .before .before .before .before .before .before .before .before .before .before .step2 .ensures in
+    let lm = c .before .before .before .before .before .before .before .before .before .step3 .ensures in
+    let ln = c .before .before .before .before .before .before .before .before .step4 .ensures in
+    let g = high-meeting (c .before .before .before .before) in
+    (λ a b h. pass h pair pair2 hm hn g lm ln (low-meeting c), pass-left (c .before .before .before .before .before .before .before .before .before .before .before .before .before .before .before .before .pre .2) pair pair2 hm hn g lm ln (low-meeting c))
 
 pub pass-on-spec : {M : Type 1} → statement M
 pass-on-spec =
