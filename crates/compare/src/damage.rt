@@ -1,0 +1,157 @@
+// Damage to a table: another length, another field of a word, children exchanged, another bit.
+use crate::draw::draw;
+use crate::draw::fork;
+use crate::draw::minus;
+use crate::draw::over;
+use crate::draw::plus;
+use crate::draw::times;
+use crate::file::File;
+use crate::file::Word;
+
+// Values that a field may be set to: the limits of document 01 and the numbers beside them.
+const VALUES: [usize; 14] = [0, 1, 2, 3, 4, 10, 60, 61, 63, 254, 255, 1000, 1001, 2047];
+
+// Lengths that a file may be cut or made longer to.
+const LENGTHS: [usize; 12] = [0, 1, 2, 3, 4, 5, 8, 1256, 1260, 1261, 1264, 1280];
+
+// A table with one damage, or with two.
+pub fn damaged(file: File, seed: usize) -> File {
+    let one = with_damage(file, fork(seed, 1));
+    if draw(seed, 2, 4) == 0 {
+        with_damage(one, fork(seed, 3))
+    } else {
+        one
+    }
+}
+
+// A table with one damage.
+fn with_damage(file: File, seed: usize) -> File {
+    let way = draw(seed, 4, 16);
+    match way {
+        0 => file.sized(length(file, seed)),
+        1 => with_heading(file, seed),
+        2 => with_field(file, seed, 0),
+        3 | 4 => exchanged(file, record_word(file, seed)),
+        5..=8 => flipped(file, seed),
+        9..=11 => with_field(file, seed, variable_word(file, seed)),
+        12 => with_scale(file, variable_word(file, seed)),
+        _ => with_field(file, seed, record_word(file, seed)),
+    }
+}
+
+// The file with a heading beyond the limits, or with one variable or record more or less than there are.
+fn with_heading(file: File, seed: usize) -> File {
+    let mut w = file.word(0);
+    let way = draw(seed, 12, 8);
+    match way {
+        0 => w.p = 0,
+        1 => w.p = 61,
+        2 => w.p = plus(w.p, 1),
+        3 => w.q = 0,
+        4 => w.q = 255,
+        5 => w.q = plus(w.q, 1),
+        6 => w.q = minus(w.q, 1),
+        _ => w.r = 1,
+    }
+    file.with_word(0, w)
+}
+
+// The word of a variable.
+fn variable_word(file: File, seed: usize) -> usize {
+    plus(1, draw(seed, 5, file.variables()))
+}
+
+// The word of a record.
+fn record_word(file: File, seed: usize) -> usize {
+    plus(1, plus(file.variables(), draw(seed, 6, file.records())))
+}
+
+// A length beside the right one, or one of those at the limits.
+fn length(file: File, seed: usize) -> usize {
+    let d = draw(seed, 7, 24);
+    if d < 12 {
+        return LENGTHS[d];
+    }
+    minus(plus(file.size, minus(d, 12)), 6)
+}
+
+// The file with one field of a word changed; the last way sets a of a chance by its b.
+fn with_field(file: File, seed: usize, i: usize) -> File {
+    let mut w = file.word(i);
+    let field = draw(seed, 8, 5);
+    match field {
+        0 => w.kind = value(seed, w.kind, i),
+        1 => w.p = value(seed, w.p, file.variables()),
+        2 => w.q = value(seed, w.q, own_node(file, i)),
+        3 => w.r = value(seed, w.r, own_node(file, i)),
+        _ => w.q = value(seed, w.r, own_node(file, i)),
+    }
+    file.with_word(i, w)
+}
+
+// The node of a word, if it is a record.
+fn own_node(file: File, i: usize) -> usize {
+    minus(plus(i, 1), file.variables())
+}
+
+// A value in place of an old one.
+fn value(seed: usize, old: usize, other: usize) -> usize {
+    let d = draw(seed, 9, 28);
+    if d < 14 {
+        return VALUES[d];
+    }
+    match d {
+        14..=16 => plus(old, 1),
+        17 | 18 => minus(old, 1),
+        19 | 20 => other,
+        21 => plus(other, 1),
+        22 => minus(other, 1),
+        _ => draw(seed, 10, 2048),
+    }
+}
+
+// The file with the children of a record exchanged.
+fn exchanged(file: File, i: usize) -> File {
+    let w = file.word(i);
+    file.with_word(i, Word::record(w.p, w.r, w.q))
+}
+
+// The file with the b of a chance one larger, which brings some products above 2^56.
+fn with_scale(file: File, i: usize) -> File {
+    let mut w = file.word(i);
+    if w.kind == Word::CHANCE {
+        w.r = plus(w.r, 1);
+    }
+    file.with_word(i, w)
+}
+
+// The file with one bit changed.
+fn flipped(file: File, seed: usize) -> File {
+    let bit = draw(seed, 11, times(8, file.size));
+    let power = power(bit % 8);
+    let at = bit / 8;
+    let b = file.byte(at);
+    let held = over(b, power) % 2;
+    file.with_byte(
+        at,
+        if held == 0 {
+            plus(b, power)
+        } else {
+            minus(b, power)
+        },
+    )
+}
+
+// A power of two.
+fn power(n: usize) -> usize {
+    match n {
+        0 => 1,
+        1 => 2,
+        2 => 4,
+        3 => 8,
+        4 => 16,
+        5 => 32,
+        6 => 64,
+        _ => 128,
+    }
+}

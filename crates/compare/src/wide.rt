@@ -1,0 +1,42 @@
+// Tables of up to 60 variables and 254 records, with too many choices, too large a product, or neither. One record of each is
+// wrong, so that none is accepted.
+use crate::draw::draw;
+use crate::draw::fork;
+use crate::draw::minus;
+use crate::draw::plus;
+use crate::file::File;
+use crate::file::Word;
+use crate::variables::with_variables;
+
+pub fn wide(seed: usize) -> File {
+    let v = minus(60, draw(seed, 1, 40));
+    let n = minus(254, draw(seed, 2, 254));
+    let varied = with_variables(File::started(v, n), fork(seed, 3), true);
+    with_fault(with_records(varied), fork(seed, 4))
+}
+
+// The file with its records, each right and each alike.
+fn with_records(file: File) -> File {
+    let n = file.records();
+    let v = file.variables();
+    let mut now = file;
+    let mut k = 0;
+    while k < n {
+        now = now.with_word(plus(1, plus(v, k)), Word::record(0, 1, 0));
+        k += 1;
+    }
+    now
+}
+
+// The file with one record that is wrong.
+fn with_fault(file: File, seed: usize) -> File {
+    let node = plus(2, draw(seed, 10, file.records()));
+    let way = draw(seed, 11, 4);
+    let w = match way {
+        0 => Word::chance(0, 1, 0),
+        1 => Word::record(plus(file.variables(), 3), 1, 0),
+        2 => Word::record(0, node, 0),
+        _ => Word::record(0, 1, node),
+    };
+    file.with_word(file.at_node(node), w)
+}
