@@ -4,7 +4,7 @@
    writes its place. Whatever is not written is left as it was, every buffer of a refused request included.
 
    A slice is a pointer and a length in elements. No pointer is null, of an empty slice neither; what is written overlaps nothing else that
-   is handed in. Any bytes, numbers and lengths may be handed in: there is nothing else to see to. A call takes some 250 KiB of stack and
+   is handed in. Any bytes, numbers and lengths may be handed in: there is nothing else to see to. A call takes some 120 KiB of stack and
    no heap, keeps nothing, and may be made from any thread.
 
    A plan has one byte a choice: 0 open, 1 taken, 2 left. */
