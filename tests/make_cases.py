@@ -49,13 +49,18 @@ def sweeps(label, data, plan, size=None):
     case(label, "w", text_of(data, marks_of(plan), str(size)), show_sweep(data, plan, size))
 
 
+def ways_of(data, plan):
+    """The completions with their scores, once for many requests; none where the request is refused."""
+    try:
+        return scored_ways(read(data), plan)
+    except (Refused, IndexError):
+        return None
+
+
 def filters(label, data, plan, percents, size=None):
     data = file_of(data)
     size = len(plan) if size is None else size
-    try:
-        ways = scored_ways(read(data), plan)
-    except (Refused, IndexError):
-        ways = None
+    ways = ways_of(data, plan)
     for percent in percents:
         case(f"{label}, {percent}", "f", text_of(data, marks_of(plan), f"{size}, {percent}"), show_filter(data, plan, percent, size, ways))
 
@@ -63,10 +68,7 @@ def filters(label, data, plan, percents, size=None):
 def searches(label, data, plan, jobs, size=None):
     data = file_of(data)
     size = len(plan) if size is None else size
-    try:
-        ways = scored_ways(read(data), plan)
-    except (Refused, IndexError):
-        ways = None
+    ways = ways_of(data, plan)
     for kits, percent in jobs:
         case(f"{label}, kits {kits}, {percent}", "p", text_of(data, marks_of(plan), f"{size}, {percent}, {kits}"),
              show_search(data, plan, kits, percent, size, ways))

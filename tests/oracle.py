@@ -237,13 +237,32 @@ def numbers(xs):
     return "".join(f" {x}" for x in xs)
 
 
+def accepted(data, plan, size, percent=0, kits=0):
+    """The table of a request that no check turns away; a service without kits or percent asks for none."""
+    t = read(data)
+    check_plan(t, plan)
+    if percent > 100:
+        raise Refused(23, 0)
+    if kits > 20:
+        raise Refused(24, 0)
+    check_buffer(t, size)
+    return t
+
+
+def search_of(table, plan, kits, percent, ways):
+    """The first candidate, its score and the visits; what the visits leave held is the same plan."""
+    scores = {tuple(way): x for way, x in ways}
+    visits, kept = visits_of(table, plan, kits, percent, lambda way: scores[tuple(way)])
+    assert visits < 2 ** (plan.count(0) + 1)
+    best, x = best_of(table, kits, percent, ways)
+    assert kept == [best, x]
+    return best, x, visits
+
+
 def show_sweep(data, plan, size):
     held = [7] * size
     try:
-        t = read(data)
-        check_plan(t, plan)
-        check_buffer(t, size)
-        top, held = sweep(t, plan)
+        top, held = sweep(accepted(data, plan, size), plan)
         return f" top {top}, drops{numbers(held)}"
     except Refused as r:
         return f" refused {r.number} {r.place}, drops{numbers(held)}"
@@ -252,11 +271,7 @@ def show_sweep(data, plan, size):
 def show_filter(data, plan, percent, size, ways=None):
     held = [7] * size
     try:
-        t = read(data)
-        check_plan(t, plan)
-        if percent > 100:
-            raise Refused(23, 0)
-        check_buffer(t, size)
+        t = accepted(data, plan, size, percent)
         count, held = filter_of(t, plan, percent, ways or scored_ways(t, plan))
         return f" forced {count}, plan{numbers(held)}"
     except Refused as r:
@@ -266,19 +281,8 @@ def show_filter(data, plan, percent, size, ways=None):
 def show_search(data, plan, kits, percent, size, ways=None):
     held = [7] * size
     try:
-        t = read(data)
-        check_plan(t, plan)
-        if percent > 100:
-            raise Refused(23, 0)
-        if kits > 20:
-            raise Refused(24, 0)
-        check_buffer(t, size)
-        ways = ways or scored_ways(t, plan)
-        scores = {tuple(way): x for way, x in ways}
-        visits, kept = visits_of(t, plan, kits, percent, lambda way: scores[tuple(way)])
-        assert visits < 2 ** (plan.count(0) + 1)
-        held, x = best_of(t, kits, percent, ways)
-        assert kept == [held, x]
+        t = accepted(data, plan, size, percent, kits)
+        held, x, visits = search_of(t, plan, kits, percent, ways or scored_ways(t, plan))
         return f" score {x} visits {visits}, plan{numbers(held)}"
     except Refused as r:
         return f" refused {r.number} {r.place}, plan{numbers(held)}"
@@ -293,17 +297,9 @@ def printout(data):
         kind, kits, q, percent = fields(words_of(data)[0])
         if kind != 5 or q:
             raise Refused(10, 0)
-        t = read(data[4:])
-        if percent > 100:
-            raise Refused(23, 0)
-        if kits > 20:
-            raise Refused(24, 0)
-        plan = [0] * len(t.choices)
-        ways = scored_ways(t, plan)
-        scores = {tuple(way): x for way, x in ways}
-        visits, kept = visits_of(t, plan, kits, percent, lambda way: scores[tuple(way)])
-        best, x = best_of(t, kits, percent, ways)
-        assert kept == [best, x]
+        plan = [0] * len(read(data[4:]).choices)
+        t = accepted(data[4:], plan, len(plan), percent, kits)
+        best, x, visits = search_of(t, plan, kits, percent, scored_ways(t, plan))
         text = f"choices {len(plan)} scale {t.scale}\nkits {best.count(1)} score {x} visits {visits}\n"
         return text + "".join(f"{i} {'take' if m == 1 else 'left'}\n" for i, m in enumerate(best))
     except Refused as r:

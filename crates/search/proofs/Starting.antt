@@ -23,7 +23,7 @@ use Rattle.scoring.specs.Passes.{over, byNode, Decoded, marksByPosition, Marked
 use Rattle.scoring.proofs.FullPlans.{Legal}
 use Rattle.scoring.proofs.Over.{over-sequence-at}
 use Rattle.scoring.proofs.Bounding.{marked, records-few}
-use Rattle.sweep.specs.Drops.{Chosen, Least}
+use Rattle.sweep.specs.Drops.{Chosen, LargestFailing}
 use Rattle.search.specs.declared.job.Job.{Job}
 use Rattle.search.specs.declared.tally.Tally.{Tally}
 use Rattle.search.specs.State.{rows, openLines, choicePosition, Stand, Ground, Stands, heldOf, tallyOf, Fitted, Laid}
@@ -81,13 +81,13 @@ handed-in p start few marks count =
 
 module _ {s p : List ℕ} {percent n : ℕ} {ps hs ls ha la numbers : List ℕ} {start : Plan} (passed : Passed s) (size : n ≡ length (tableOf s .records)) (long : length p ≡ choiceCount (tableOf s .variables)) (legal : Legal p) where
   -- the arrays, the plan and its open lines are what a search starts from
-  pub laid-out : (W W′ : List ℕ) {weight lines budget least : ℕ} → Decoded s ps hs ls → ha ≡ over (byNode (highArc (tableOf s)) n) W → la ≡ over (byNode (lowArc (tableOf s)) n) W′ → weight ≡ gap (tableOf s) 0 (place (tableOf s) (root (tableOf s))) → start .marks ≡ take (min (length p) 20) p ++ replicate (20 - min (length p) 20) 0 → start .count ≡ min (length p) 20 → (lines ≤ 20) × (take lines numbers ≡ openLines (rows start)) → length numbers ≡ 20 → Least (tableOf s) percent least → Laid s p percent ps hs ls ha la numbers (record { records = n; weight = weight; lines = lines; budget = budget; least = least }) start
+  pub laid-out : (W W′ : List ℕ) {weight lines budget failing : ℕ} → Decoded s ps hs ls → ha ≡ over (byNode (highArc (tableOf s)) n) W → la ≡ over (byNode (lowArc (tableOf s)) n) W′ → weight ≡ gap (tableOf s) 0 (place (tableOf s) (root (tableOf s))) → start .marks ≡ take (min (length p) 20) p ++ replicate (20 - min (length p) 20) 0 → start .count ≡ min (length p) 20 → (lines ≤ 20) × (take lines numbers ≡ openLines (rows start)) → length numbers ≡ 20 → LargestFailing (tableOf s) percent failing → Laid s p percent ps hs ls ha la numbers (record { records = n; weight = weight; lines = lines; budget = budget; failing = failing }) start
   laid-out W W′ decoded eha ela weighs marks count lines twenty passing =
       let plan = handed-in p start (omega (arith, passed-choices passed)) marks count in
       record {
         some = records-few passed n size .0;
         weight = weighs;
-        least = passing;
+        failing = passing;
         marked = marked passed n size p W W′ long legal decoded eha ela refl;
         lines = lines .1 ∙ ap openLines (plan .0);
         few = (lines .0, omega arith);
@@ -111,7 +111,7 @@ module _ {s p : List ℕ} {percent : ℕ} {ps hs ls ha la numbers : List ℕ} {j
       record {
         some = laid .some;
         weight = laid .weight;
-        least = laid .least;
+        failing = laid .failing;
         places = λ i l. rw (e, over-sequence-at (choicePosition (tableOf s .variables)) (replicate 20 0) (choiceCount (tableOf s .variables)) i l) (choice-stands (tableOf s) i l);
       }
 

@@ -1,9 +1,9 @@
 -- A tally in the terms of the visit rule: its tests, the ranking of two plans, and the plan that it holds after a finished plan.
--- Assumes that the score and the cost held are the held plan's (`Fitted`), and in the tests that `least` is the least score that passes.
+-- Assumes that the score and the cost held are the held plan's (`Fitted`), and in the tests that `failing` is the largest score that fails.
 use Prim.Native.Nat.{ℕ, _+_, _≤_, _<_}
 use native.Mathlib.Omega.{arith}
 use mathlib.Core.Path.{_≡_, refl, sym, _∙_}
-use mathlib.Core.Bool.{Bool, true, false, cond, not, _&&_, _||_, or-false, Bool·not-not}
+use mathlib.Core.Bool.{Bool, true, false, cond, not, _&&_, _||_, or-false}
 use mathlib.Core.List.{List, _∷_}
 use mathlib.Core.Option.{none, some}
 use lib.ListN.{length, getD, take, drop, drop-of-length-le}
@@ -16,7 +16,7 @@ use Rattle.diagram.specs.Plans.{cost, upperBound}
 use Rattle.diagram.specs.Ranking.{takesFirst, ranksBefore, better}
 use Rattle.diagram.specs.declared.plan.Plan.{Plan}
 use Rattle.rule.specs.Rule.{terms, beaten, goesBack, worthwhile}
-use Rattle.sweep.specs.Drops.{Least}
+use Rattle.sweep.specs.Drops.{LargestFailing}
 use Rattle.search.specs.declared.branch.Branch.{Branch}
 use Rattle.search.specs.declared.tally.Tally.{Tally}
 use Rattle.search.specs.State.{rows, heldOf, Fitted, ranksOver, kept}
@@ -38,23 +38,23 @@ module _ (budget cost : ℕ) where
   pub back-dear : (fails beaten : Bool) → budget < cost → true ≡ (ltb budget cost || fails || beaten)
   back-dear fails beaten h = rw (lt-ltb budget cost h) refl
 
-  module _ (bound least : ℕ) (h : cost ≤ budget) where
+  module _ (bound failing : ℕ) (h : cost ≤ budget) where
     -- within the budget, one whose bound does not pass is
-    pub back-failing : (beaten : Bool) → bound < least → true ≡ (ltb budget cost || ltb bound least || beaten)
-    back-failing beaten k = rw (le-ltb budget cost h, lt-ltb bound least k) refl
+    pub back-failing : (beaten : Bool) → bound ≤ failing → true ≡ (ltb budget cost || not (ltb failing bound) || beaten)
+    back-failing beaten k = rw (le-ltb budget cost h, le-ltb failing bound k) refl
 
     -- and where the bound passes, one that is beaten
-    pub back-beaten : {r beaten : Bool} → least ≤ bound → r ≡ beaten → r ≡ (ltb budget cost || ltb bound least || beaten)
-    back-beaten k e = rw (le-ltb budget cost h, le-ltb bound least k) e
+    pub back-beaten : {r beaten : Bool} → failing < bound → r ≡ beaten → r ≡ (ltb budget cost || not (ltb failing bound) || beaten)
+    back-beaten k e = rw (le-ltb budget cost h, lt-ltb failing bound k) e
 
-module _ (bound least : ℕ) where
+module _ (bound failing : ℕ) where
   -- a plan whose bound does not pass is not worth a visit
-  pub worth-failing : (rest : Bool) → bound < least → false ≡ (not (ltb bound least) && rest)
-  worth-failing rest h = rw (lt-ltb bound least h) refl
+  pub worth-failing : (rest : Bool) → bound ≤ failing → false ≡ (ltb failing bound && rest)
+  worth-failing rest h = rw (le-ltb failing bound h) refl
 
   -- one whose bound passes is unless it is beaten
-  pub worth-passing : {r beaten : Bool} → least ≤ bound → r ≡ beaten → not r ≡ (not (ltb bound least) && not beaten)
-  worth-passing h e = rw (le-ltb bound least h, e) refl
+  pub worth-passing : {r beaten : Bool} → failing < bound → r ≡ beaten → not r ≡ (ltb failing bound && not beaten)
+  worth-passing h e = rw (lt-ltb failing bound h, e) refl
 
 -- ---------------------------------------------------------------------------
 -- The ranking of two plans
@@ -143,15 +143,15 @@ module _ {t : Table} {w : Tally} (fitted : Fitted t w) where
       go true e = rw (fitted .score e) refl
       go false e = refl
 
-  module _ (percent least : ℕ) (passing : Least t percent least) (p : List ℕ) (budget : ℕ) {x : ℕ} (top : x ≡ upperBound t p) {r : Bool} where
+  module _ (percent failing : ℕ) (passing : LargestFailing t percent failing) (p : List ℕ) (budget : ℕ) {x : ℕ} (top : x ≡ upperBound t p) {r : Bool} where
     -- a visit goes back
-    pub back-is : {c : ℕ} → c ≡ cost p → r ≡ (ltb budget c || ltb x least || w .held && ltb x (w .score)) → goesBack (terms t budget percent) p (heldOf w) ≡ r
+    pub back-is : {c : ℕ} → c ≡ cost p → r ≡ (ltb budget c || not (ltb failing x) || w .held && ltb x (w .score)) → goesBack (terms t budget percent) p (heldOf w) ≡ r
     unfolding terms goesBack
     back-is charged e =
-        rw (e, charged, top, passing (upperBound t p), Bool·not-not, beaten-is budget percent (upperBound t p)) refl
+        rw (e, charged, top, passing (upperBound t p), beaten-is budget percent (upperBound t p)) refl
 
     -- a plan with a line left is visited
-    pub worth-is : r ≡ (not (ltb x least) && not (w .held && ltb x (w .score))) → worthwhile (terms t budget percent) p (heldOf w) ≡ r
+    pub worth-is : r ≡ (ltb failing x && not (w .held && ltb x (w .score))) → worthwhile (terms t budget percent) p (heldOf w) ≡ r
     unfolding terms worthwhile
     worth-is e = rw (e, top, passing (upperBound t p), beaten-is budget percent (upperBound t p)) refl
 

@@ -38,10 +38,10 @@ Ready at ps hs ls ha la numbers job n most b w =
 
 -- The tests of a visit as the code makes them
 abbrev backTest : Job → Branch → Tally → Bool
-backTest job b w = ltb (job .budget) (b .cost) || ltb (b .bound) (job .least) || w .held && ltb (b .bound) (w .score)
+backTest job b w = ltb (job .budget) (b .cost) || not (ltb (job .failing) (b .bound)) || w .held && ltb (b .bound) (w .score)
 
 abbrev worthTest : Job → Branch → Tally → Bool
-worthTest job b w = not (ltb (b .bound) (job .least)) && not (w .held && ltb (b .bound) (w .score))
+worthTest job b w = ltb (job .failing) (b .bound) && not (w .held && ltb (b .bound) (w .score))
 
 -- u is w with one visit more
 abbrev Counted : (w u : Tally) → Type 0
@@ -62,7 +62,7 @@ module _ {t : Table} {percent : ℕ} {at : List ℕ} {job : Job} {ps hs ls ha la
     unfolding tallyOf
     back-test =
         let same : heldOf u ≡ heldOf w = ap (λ (x : visits.Tally). x .held) (counted-tally w now) in
-        rw same at (back-is (counted-fitted fitted now) percent (job .least) (ground .least) (rows (b .plan)) (job .budget) (stands .bound) (stands .cost) test)
+        rw same at (back-is (counted-fitted fitted now) percent (job .failing) (ground .failing) (rows (b .plan)) (job .budget) (stands .bound) (stands .cost) test)
 
     -- a visit that goes back
     pub visit-back : r ≡ true → Ruled t percent job b w u
@@ -165,7 +165,7 @@ module _ {t : Table} {percent : ℕ} {at : List ℕ} {job : Job} {ps hs ls ha la
               let top : l .bound ≡ upperBound t (set (rows (b .plan)) d 2) = rw left (branching.left-bound ground stands more line) in
               rw
               (branching.line-lowest ground stands more line)
-              (worth-is (first .1) percent (job .least) (ground .least) (set (rows (b .plan)) d 2) (job .budget) top worth)
+              (worth-is (first .1) percent (job .failing) (ground .failing) (set (rows (b .plan)) d 2) (job .budget) top worth)
 
           -- a visit that ends after the branch with the line taken
           pub visit-taken : s ≡ false → Ruled t percent job b w v

@@ -15,7 +15,7 @@ use Rattle.diagram.specs.Visits as visits
 use Rattle.diagram.specs.declared.plan.Plan.{Plan}
 use Rattle.scoring.specs.Value.{place, gap}
 use Rattle.scoring.specs.Passes.{marksByPosition, Marked}
-use Rattle.sweep.specs.Drops.{Least}
+use Rattle.sweep.specs.Drops.{LargestFailing}
 use Rattle.search.specs.declared.branch.Branch.{Branch}
 use Rattle.search.specs.declared.job.Job.{Job}
 use Rattle.search.specs.declared.tally.Tally.{Tally}
@@ -83,7 +83,7 @@ leftOut b i x y =
 pub record Ground (t : Table) (percent : ℕ) (at : List ℕ) (job : Job) : Type 0 where
   pub some : 1 ≤ job .records
   pub weight : job .weight ≡ gap t 0 (place t (root t))
-  pub least : Least t percent (job .least)
+  pub failing : LargestFailing t percent (job .failing)
   pub places : (i : ℕ) → i < choiceCount (t .variables) → Stand t i (getD at i 0)
 
 -- What a branch holds: its marks by position are those of a plan that is its own but for open lines that it takes, its open lines are the last ones of
@@ -132,7 +132,7 @@ kept b w =
 pub record Laid (s p : List ℕ) (percent : ℕ) (positions high low highArcs lowArcs numbers : List ℕ) (job : Job) (start : Plan) : Type 0 where
   pub some : 1 ≤ job .records
   pub weight : job .weight ≡ gap (tableOf s) 0 (place (tableOf s) (root (tableOf s)))
-  pub least : Least (tableOf s) percent (job .least)
+  pub failing : LargestFailing (tableOf s) percent (job .failing)
   pub marked : Marked (tableOf s) p (job .records) positions high low highArcs lowArcs (marksByPosition (tableOf s) p)
   pub lines : take (job .lines) numbers ≡ openLines p
   pub few : (job .lines ≤ 20) × (job .lines ≤ length numbers)

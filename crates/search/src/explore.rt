@@ -20,7 +20,7 @@ ghost use Rattle.diagram.specs.Visits as visits;
 ghost use Rattle.diagram.proofs.Checked.{Passed};
 ghost use Rattle.scoring.specs.Value.{place, gap};
 ghost use Rattle.scoring.specs.Passes.{Marked};
-ghost use Rattle.sweep.specs.Drops.{Least};
+ghost use Rattle.sweep.specs.Drops.{LargestFailing};
 ghost use Rattle.search.specs.State.{tallyOf, Fitted, Laid};
 
 // Every position by its own number, to be picked from.
@@ -92,12 +92,12 @@ const POSITIONS: [u64; 64] = [
 ];
 
 // What is held and counted after the search of a file that has passed every check, from a plan that the checks 21 and 22 let
-// through; `least` is the least score that passes the percentage.
-pub fn explore(file: &[u8], plan: &[u8], budget: u32, least: u64) -> Tally
+// through; `failing` is the largest score that fails the percentage.
+pub fn explore(file: &[u8], plan: &[u8], budget: u32, failing: u64) -> Tally
     requires passed { ⌜ Passed (now file) ⌝ }
     requires plan { ⌜ (length (now plan) ≡ choiceCount (tableOf (now file) .variables)) × ((i : ℕ) → getD (now plan) i 0 ≤ 2) ⌝ }
-    requires least { ⌜ ((percent : ℕ) × Least (tableOf (now file)) percent least) ⌝ }
-    ensures { λ r. ⌜ ((percent : ℕ) → Least (tableOf (now (file .entry))) percent least → (tallyOf r ≡ visits.visited (tableOf (now (file .entry))) budget percent (now (plan .entry))) × Fitted (tableOf (now (file .entry))) r) ⌝ }
+    requires failing { ⌜ ((percent : ℕ) × LargestFailing (tableOf (now file)) percent failing) ⌝ }
+    ensures { λ r. ⌜ ((percent : ℕ) → LargestFailing (tableOf (now (file .entry))) percent failing → (tallyOf r ≡ visits.visited (tableOf (now (file .entry))) budget percent (now (plan .entry))) × Fitted (tableOf (now (file .entry))) r) ⌝ }
 {
     let n = record_count(file);
     let mut positions = [0u8; 256];
@@ -121,7 +121,7 @@ pub fn explore(file: &[u8], plan: &[u8], budget: u32, least: u64) -> Tally
         weight,
         lines: lines.count,
         budget,
-        least,
+        failing,
     };
     let numbers = lines.numbers;
     first_visit(

@@ -14,7 +14,7 @@ use diagram::Refusal;
 use explore::explore;
 use sweep::RequestAnswer;
 use sweep::accept;
-use sweep::least_passing;
+use sweep::largest_failing;
 ghost use mathlib.Core.Path.{_≡_};
 ghost use Prim.Native.Nat.{suc, _+_, _≤_, _^_};
 ghost use lib.ListN.{length};
@@ -34,7 +34,7 @@ pub fn search(file: &[u8], plan: &[u8], budget: u32, percent: u32, out: &mut [u8
         RequestAnswer::Accepted(t) => t,
         RequestAnswer::Refused(r) => return SearchAnswer::Refused(r),
     };
-    let found = explore(file, plan, budget, least_passing(percent, t.scale));
+    let found = explore(file, plan, budget, largest_failing(percent, t.scale));
     if !found.held {
         return SearchAnswer::Refused(Refusal {
             number: 32,

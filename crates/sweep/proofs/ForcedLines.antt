@@ -8,7 +8,7 @@ use native.Mathlib.Omega.{arith}
 use mathlib.Core.Path.{_≡_, refl, ap, _∙_}
 use mathlib.Core.Bool.{Bool, true, false, cond, not, _&&_, false≢true}
 use mathlib.Core.List.{List, [], _∷_, append-nil}
-use borrow.Author.Tests.{ltb-true, ltb-false, lt-ltb, le-ltb, eq-eqb, ne-eqb, not-true}
+use borrow.Author.Tests.{ltb-true, lt-ltb, eq-eqb, ne-eqb}
 use lib.ListN.{length, getD, set}
 use lib.Seq.{drop-length}
 use lib.Dec.{eqb, ltb}
@@ -31,7 +31,7 @@ use Rattle.diagram.proofs.Rising.{
 }
 use Rattle.scoring.specs.Passes.{over}
 use Rattle.scoring.proofs.Over.{over-next}
-use Rattle.sweep.specs.Drops.{Least, Swept}
+use Rattle.sweep.specs.Drops.{LargestFailing, Swept}
 
 -- ---------------------------------------------------------------------------
 -- Tests
@@ -40,10 +40,6 @@ use Rattle.sweep.specs.Drops.{Least, Swept}
 denied : (a b : Bool) → (a ≡ true → b ≡ true) → not b ≡ true → not a ≡ true
 denied true b f h = rw (f refl) at h
 denied false b f h = refl
-
-not-not : (a : Bool) → not (not a) ≡ a
-not-not true = refl
-not-not false = refl
 
 -- a conjunction is denied where its first side is, whenever its second side holds
 denied-both : (a b : Bool) → (b ≡ true → not a ≡ true) → not (a && b) ≡ true
@@ -111,16 +107,16 @@ module _ (t : Table) (formed : Formed (length (t .variables)) (t .records)) (mon
 -- ---------------------------------------------------------------------------
 -- The tests of a turn
 
--- the least score that passes, from x, the percentage of the table's scale
-pub least-is : (t : Table) (percent : ℕ) {x r : ℕ} → x ≡ percent * scale t → r ≡ x / 100 + 1 → Least t percent r
+-- the largest score that fails, from x, the percentage of the table's scale
+pub failing-is : (t : Table) (percent : ℕ) {x r : ℕ} → x ≡ percent * scale t → r ≡ x / 100 → LargestFailing t percent r
 unfolding passes
-least-is t percent {x} {r} e q y =
+failing-is t percent {x} {r} e q y =
     rw (← e)
     (both-ways
     _
     _
-    (λ h. ap not (le-ltb y r (omega (arith, ltb-true x (100 * y) h, q))))
-    (λ h. lt-ltb x (100 * y) (omega (arith, ltb-false y r (not-true _ h), q))))
+    (λ h. lt-ltb r y (omega (arith, ltb-true x (100 * y) h, q)))
+    (λ h. lt-ltb x (100 * y) (omega (arith, ltb-true r y h, q))))
 
 -- a closed line is not forced
 pub closed-line : (mark : ℕ) (fails : Bool) → (mark ≡ 0 → ⊥) → false ≡ (eqb mark 0 && fails)
@@ -135,7 +131,7 @@ getD-within [] i h = absurd (omega arith)
 getD-within (m ∷ p) zero h = refl
 getD-within (m ∷ p) (suc i) h = getD-within p i (omega arith)
 
-module _ {t : Table} {p : List ℕ} {percent least bound : ℕ} {drops : List ℕ} (s : Swept t p percent least bound drops) where
+module _ {t : Table} {p : List ℕ} {percent failing bound : ℕ} {drops : List ℕ} (s : Swept t p percent failing bound drops) where
   -- no drop is larger than the top
   pub drop-within : (i : ℕ) → i < length p → getD drops i 0 ≤ bound
   unfolding derivative
@@ -146,11 +142,11 @@ module _ {t : Table} {p : List ℕ} {percent least bound : ℕ} {drops : List �
       go false x y = omega arith
 
   -- what a turn tests, its line's mark and its line's drop, is whether the line is forced
-  pub forced-turn : (i : ℕ) → i < length p → {mark drop : ℕ} {r : Bool} → mark ≡ getD p i 0 → drop ≡ getD drops i 0 → r ≡ (eqb mark 0 && ltb (bound - drop) least) → forced t percent p i ≡ r
+  pub forced-turn : (i : ℕ) → i < length p → {mark drop : ℕ} {r : Bool} → mark ≡ getD p i 0 → drop ≡ getD drops i 0 → r ≡ (eqb mark 0 && not (ltb failing (bound - drop))) → forced t percent p i ≡ r
   unfolding isOpen
   forced-turn i h {mark} {drop} m d r =
       forced-is t (s .formed) (s .monotone) percent p i
-      ∙ rw (r, m, d, s .derivatives i h, s .top, getD-within p i h, s .passing, not-not) refl
+      ∙ rw (r, m, d, s .derivatives i h, s .top, getD-within p i h, s .passing) refl
 
 -- ---------------------------------------------------------------------------
 -- The loop that takes the forced lines

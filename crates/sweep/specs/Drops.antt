@@ -1,7 +1,7 @@
 -- What the arrays hold from which the drops are summed up.
 use Prim.Native.Nat.{ℕ, zero, suc, _+_, _-_, _*_, _≤_, _<_, _^_}
 use mathlib.Core.Path.{_≡_}
-use mathlib.Core.Bool.{Bool, true, cond, not, _&&_}
+use mathlib.Core.Bool.{Bool, true, cond, _&&_}
 use mathlib.Core.List.{List}
 use lib.ListN.{length, getD, take}
 use lib.Dec.{eqb, ltb}
@@ -72,15 +72,15 @@ Chosen t f cells =
 -- ---------------------------------------------------------------------------
 -- What the filter works on
 
--- The least score that passes a percentage: a score passes unless it is less
-abbrev pub Least : Table → (percent least : ℕ) → Type 0
-Least t percent least = (x : ℕ) → passes t percent x ≡ not (ltb x least)
+-- The largest score that fails a percentage: a score passes when it is more
+abbrev pub LargestFailing : Table → (percent failing : ℕ) → Type 0
+LargestFailing t percent failing = (x : ℕ) → passes t percent x ≡ ltb failing x
 
--- The top and the drops of an accepted table under a legal plan, and the least score that passes a percentage
-pub record Swept (t : Table) (p : List ℕ) (percent least bound : ℕ) (drops : List ℕ) : Type 0 where
+-- The top and the drops of an accepted table under a legal plan, and the largest score that fails a percentage
+pub record Swept (t : Table) (p : List ℕ) (percent failing bound : ℕ) (drops : List ℕ) : Type 0 where
   pub formed : Formed (length (t .variables)) (t .records)
   pub monotone : Monotone t
-  pub passing : Least t percent least
+  pub passing : LargestFailing t percent failing
   pub top : bound ≡ upperBound t p
   pub few : length p ≤ 20
   pub derivatives : (i : ℕ) → i < length p → getD drops i 0 ≡ derivative t p i

@@ -9,7 +9,7 @@ use Rattle.diagram.specs.Table.{tableOf, scale}
 use Rattle.diagram.specs.Visits as visits
 use Rattle.diagram.specs.Services.{answered}
 use Rattle.reading.proofs.Accepted.{passed-scale}
-use Rattle.sweep.specs.Drops.{Least}
+use Rattle.sweep.specs.Drops.{LargestFailing}
 use Rattle.sweep.specs.Request.{requestOutcome}
 use Rattle.sweep.proofs.Requesting.{Proper, numbers, refused-request, accepted-request, accepted-proper, accepted-scale}
 use Rattle.search.specs.State.{tallyOf, Fitted}
@@ -27,13 +27,13 @@ request-proper c = accepted-proper _ _ _ _ _ (c .before .before .before .accept 
 request-scale : (c : tie.After-known-told) → c .before .t .given .0 .0 .scale ≡ scale (tableOf (c .before .before .before .before .before .before .before .args .file .now))
 request-scale c = accepted-scale _ _ _ _ _ (c .before .before .before .accept .ensures) _ (c .before .t .given .1)
 
--- the least score that passes
-least : (c : tie.After-least-passing) → let a = c .before .before .before .before .before .before .before .before .args in Least (tableOf (a .file .now)) (a .percent) (c .least-passing .result)
-least c = c .least-passing .ensures _ (request-scale (c .before))
+-- the largest score that fails
+failing : (c : tie.After-largest-failing) → let a = c .before .before .before .before .before .before .before .before .args in LargestFailing (tableOf (a .file .now)) (a .percent) (c .largest-failing .result)
+failing c = c .largest-failing .ensures _ (request-scale (c .before))
 
 -- what the visits hold and have counted
 visited : (c : tie.After-explore) → let a = c .before .before .before .before .before .before .before .before .before .args in (tallyOf (c .explore .result) ≡ visits.visited (tableOf (a .file .now)) (a .budget) (a .percent) (a .plan .now)) × Fitted (tableOf (a .file .now)) (c .explore .result)
-visited c = c .explore .ensures _ (least (c .before))
+visited c = c .explore .ensures _ (failing (c .before))
 
 accept-requires : tie.Need-accept-requires
 accept-requires c κs = search needs
@@ -48,8 +48,8 @@ returns : tie.Need-returns
 returns c =
     search-turned _ _ _ _ _ _ (refused-request _ _ _ _ _ (c .before .before .before .accept .ensures) _ (c .before .r .given .1))
 
-least-passing-requires : tie.Need-least-passing-requires
-least-passing-requires c κs =
+largest-failing-requires : tie.Need-largest-failing-requires
+largest-failing-requires c κs =
     let ok = request-proper c in
     let scales = request-scale c in
     (ok .percents, omega (arith, scales, passed-scale (ok .passed)))
@@ -57,7 +57,7 @@ least-passing-requires c κs =
 explore-requires : tie.Need-explore-requires
 explore-requires c κs =
     let ok = request-proper (c .before) in
-    (ok .passed, ((ok .long, ok .legal), (_, least c)))
+    (ok .passed, ((ok .long, ok .legal), (_, failing c)))
 
 returns-2 : tie.Need-returns-2
 returns-2 c =
@@ -85,7 +85,7 @@ search-spec =
     enum-known-t
     enum-known-r
     returns
-    least-passing-requires
+    largest-failing-requires
     explore-requires
     returns-2
     write-requires

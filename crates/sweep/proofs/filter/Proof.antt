@@ -10,7 +10,7 @@ use Rattle.diagram.specs.Plans.{completions, upperBound, passes, noneOf, passin
 use Rattle.diagram.specs.Services.{answered}
 use Rattle.reading.proofs.Accepted.{passed-formed, passed-scale, passed-monotone}
 use Rattle.sweep.specs.Answer.{filterOf}
-use Rattle.sweep.specs.Drops.{Least, Swept}
+use Rattle.sweep.specs.Drops.{LargestFailing, Swept}
 use Rattle.sweep.specs.Request.{requestOutcome}
 use Rattle.sweep.proofs.ForcedLines.{none-passes}
 use Rattle.sweep.proofs.Requesting.{Proper, numbers, refused-request, accepted-request, accepted-proper, accepted-scale}
@@ -35,13 +35,13 @@ none-top c =
     let ok = request-proper c in
     none-passes _ (passed-formed (ok .passed)) (passed-monotone (ok .passed)) _ _
 
--- the least score that passes
-least : (c : tie.After-least-passing) → Least (tableOf (c .before .before .before .before .before .before .before .before .before .args .file .now)) (c .before .before .before .before .before .before .before .before .before .args .percent) (c .least-passing .result)
-least c = c .least-passing .ensures _ (request-scale (c .before .before))
+-- the largest score that fails
+failing : (c : tie.After-largest-failing) → LargestFailing (tableOf (c .before .before .before .before .before .before .before .before .before .args .file .now)) (c .before .before .before .before .before .before .before .before .before .args .percent) (c .largest-failing .result)
+failing c = c .largest-failing .ensures _ (request-scale (c .before .before))
 
 -- the top and the drops, as `force` wants them
-swept : (c : tie.After-least-passing) → Swept (tableOf (c .before .before .before .before .before .before .before .before .before .args .file .now)) (c .before .before .before .before .before .before .before .before .before .args .plan .now) (c .before .before .before .before .before .before .before .before .before .args .percent) (c .least-passing .result) (c .before .two-passes .result .bound) (c .before .two-passes .result .drops)
-swept c = request-swept (request-proper (c .before .before)) (least c) (c .before .two-passes .ensures .0) (c .before .two-passes .ensures .1)
+swept : (c : tie.After-largest-failing) → Swept (tableOf (c .before .before .before .before .before .before .before .before .before .args .file .now)) (c .before .before .before .before .before .before .before .before .before .args .plan .now) (c .before .before .before .before .before .before .before .before .before .args .percent) (c .largest-failing .result) (c .before .two-passes .result .bound) (c .before .two-passes .result .drops)
+swept c = request-swept (request-proper (c .before .before)) (failing c) (c .before .two-passes .ensures .0) (c .before .two-passes .ensures .1)
 
 accept-requires : tie.Need-accept-requires
 accept-requires c κs = search needs
@@ -61,8 +61,8 @@ two-passes-requires c κs =
     let ok = request-proper c in
     (ok .passed, (ok .long, ok .legal))
 
-least-passing-requires : tie.Need-least-passing-requires
-least-passing-requires c κs =
+largest-failing-requires : tie.Need-largest-failing-requires
+largest-failing-requires c κs =
     let ok = request-proper (c .before) in
     let scales = request-scale (c .before) in
     (ok .percents, omega (arith, scales, passed-scale (ok .passed)))
@@ -72,7 +72,7 @@ unfolding filterOf
 returns-2 c =
     let at = c .before .before .before .before in
     filter-31 _ _ _ _ _ (request-answered at) (none-top at) (c .before .before .before .two-passes .ensures .0)
-    (least (c .before .before) _ ∙ ap not (lt-ltb _ _ (c .if1 .taken)))
+    (failing (c .before .before) _ ∙ le-ltb _ _ (c .if1 .taken))
 
 force-requires : tie.Need-force-requires
 force-requires c κs =
@@ -88,7 +88,7 @@ returns-3 c =
     let at = c .before .before .before .before .before .before .before .before .before .before in
     let forced = c .before .before .force .ensures _ _ (swept (c .before .before .before .before .before .before .before .before)) in
     filter-done _ _ _ _ _ (request-answered at) (none-top at) (c .before .before .before .before .before .before .before .before .before .two-passes .ensures .0)
-    (least (c .before .before .before .before .before .before .before .before) _ ∙ ap not (le-ltb _ _ (c .before .before .before .before .before .before .if1 .left)))
+    (failing (c .before .before .before .before .before .before .before .before) _ ∙ lt-ltb _ _ (c .before .before .before .before .before .before .if1 .left))
     (forced .0)
     (forced .1)
 
@@ -101,7 +101,7 @@ filter-spec =
     enum-known-r
     returns
     two-passes-requires
-    least-passing-requires
+    largest-failing-requires
     returns-2
     force-requires
     same-length

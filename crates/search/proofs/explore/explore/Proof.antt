@@ -4,7 +4,7 @@ use mathlib.Core.Path.{_≡_, refl, sym, _∙_}
 use lib.ListN.{length}
 use Rattle.diagram.specs.Table.{tableOf}
 use Rattle.reading.proofs.Accepted.{records-length}
-use Rattle.sweep.specs.Drops.{Least}
+use Rattle.sweep.specs.Drops.{LargestFailing}
 use Rattle.search.specs.State.{Laid}
 use Rattle.search.proofs.Starting.{laid-out}
 use borrow.Author.Needs.{needs}
@@ -32,7 +32,7 @@ laid : (c : tie.After-open-lines) (percent : ℕ) →
     let start = c .before .before .before .before .before .before .before .before .before .before .before .args in
     let arrays = c .before .before .lay-out .last .1 .1 in
     let lines = c .open-lines .result in
-    Least (tableOf (start .file .now)) percent (start .least) → Laid (start .file .now) (start .plan .now) percent (arrays .0) (arrays .1 .0) (arrays .1 .1 .0) (arrays .1 .1 .1 .0) (arrays .1 .1 .1 .1 .0) (lines .numbers) (record { records = c .before .before .before .before .before .before .before .before .record-count .result; weight = c .before .before .lay-out .result; lines = lines .count; budget = start .budget; least = start .least }) (c .before .of-marks .result)
+    LargestFailing (tableOf (start .file .now)) percent (start .failing) → Laid (start .file .now) (start .plan .now) percent (arrays .0) (arrays .1 .0) (arrays .1 .1 .0) (arrays .1 .1 .1 .0) (arrays .1 .1 .1 .1 .0) (lines .numbers) (record { records = c .before .before .before .before .before .before .before .before .record-count .result; weight = c .before .before .lay-out .result; lines = lines .count; budget = start .budget; failing = start .failing }) (c .before .of-marks .result)
 laid c percent passing =
     let start = c .before .before .before .before .before .before .before .before .before .before .before in
     let arrays = c .before .before .lay-out .ensures in
@@ -43,8 +43,8 @@ laid c percent passing =
 first-visit-requires : tie.Need-first-visit-requires
 first-visit-requires c κs =
     let start = c .before .before .before .before .before .before .before .before .before .before .before .before .before .before .before .before .before .before in
-    let least = start .pre .1 .1 in
-    (start .pre .0, (start .pre .1 .0, (least .0, laid (c .before .before .before .before .before .before .before) (least .0) (least .1))))
+    let failing = start .pre .1 .1 in
+    (start .pre .0, (start .pre .1 .0, (failing .0, laid (c .before .before .before .before .before .before .before) (failing .0) (failing .1))))
 
 returns : tie.Need-returns
 returns c percent passing = c .first-visit .ensures percent (laid (c .before .before .before .before .before .before .before .before) percent passing)
