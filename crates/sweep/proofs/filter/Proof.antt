@@ -72,7 +72,7 @@ unfolding filterOf
 returns-2 c =
     let at = c .before .before .before .before in
     filter-31 _ _ _ _ _ (request-answered at) (none-top at) (c .before .before .before .two-passes .ensures .0)
-    (failing (c .before .before) _ ∙ le-ltb _ _ (c .if1 .taken))
+    (failing (c .before .before) _ ∙ le-ltb (c .before .before .largest-failing .result) _ (omega (arith, c .if1 .taken)))
 
 force-requires : tie.Need-force-requires
 force-requires c κs =
@@ -88,7 +88,7 @@ returns-3 c =
     let at = c .before .before .before .before .before .before .before .before .before .before in
     let forced = c .before .before .force .ensures _ _ (swept (c .before .before .before .before .before .before .before .before)) in
     filter-done _ _ _ _ _ (request-answered at) (none-top at) (c .before .before .before .before .before .before .before .before .before .two-passes .ensures .0)
-    (failing (c .before .before .before .before .before .before .before .before) _ ∙ lt-ltb _ _ (c .before .before .before .before .before .before .if1 .left))
+    (failing (c .before .before .before .before .before .before .before .before) _ ∙ lt-ltb (c .before .before .before .before .before .before .before .before .largest-failing .result) _ (omega (arith, c .before .before .before .before .before .before .if1 .left)))
     (forced .0)
     (forced .1)
 

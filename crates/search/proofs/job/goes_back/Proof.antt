@@ -1,4 +1,5 @@
 -- `goes_back` meets its contract: it tests the cost, then the bound, then the score held. Assumes nothing.
+use native.Mathlib.Omega.{arith}
 use mathlib.Core.Path.{refl}
 use Rattle.search.proofs.Tallying.{held-test, unheld-test, back-dear, back-failing, back-beaten}
 use Rattle.search.proofs.job.goes_back.Statement.{statement}
@@ -12,18 +13,18 @@ returns c =
 returns-2 : tie.Need-returns-2
 returns-2 c =
     let a = c .before .before .before .before .args in
-    back-failing (a .job .budget) (a .cost) (a .bound) (a .job .failing) (c .before .before .if1 .left) _ (c .if2 .taken)
+    back-failing (a .job .budget) (a .cost) (a .bound) (a .job .failing) (c .before .before .if1 .left) _ (omega (arith, c .if2 .taken))
 
 returns-3 : tie.Need-returns-3
 returns-3 c =
     let a = c .before .before .before .before .before .args in
-    back-beaten (a .job .budget) (a .cost) (a .bound) (a .job .failing) (c .before .before .before .if1 .left) (c .before .if2 .left)
+    back-beaten (a .job .budget) (a .cost) (a .bound) (a .job .failing) (c .before .before .before .if1 .left) (omega (arith, c .before .if2 .left))
     (held-test (a .held) (c .if3 .taken) refl)
 
 returns-4 : tie.Need-returns-4
 returns-4 c =
     let a = c .before .before .before .before .before .args in
-    back-beaten (a .job .budget) (a .cost) (a .bound) (a .job .failing) (c .before .before .before .if1 .left) (c .before .if2 .left)
+    back-beaten (a .job .budget) (a .cost) (a .bound) (a .job .failing) (c .before .before .before .if1 .left) (omega (arith, c .before .if2 .left))
     (unheld-test (a .held) _ (c .if3 .left) (c .if3 .left))
 
 pub goes-back-spec : {M : Type 1} → statement M
