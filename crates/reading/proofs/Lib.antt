@@ -3,6 +3,8 @@ pub mod Counting
 pub mod Shape
 pub mod Columns
 pub mod Pairing
+pub mod Digits
+pub mod Cells
 pub mod Stacking
 pub mod Outcomes
 pub mod Accepted

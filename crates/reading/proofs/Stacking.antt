@@ -1,12 +1,12 @@
 -- The stack of pairs of nodes: how it begins, how a pair is met, how the pair on top is passed on, and what it says at the end.
 -- Assumes nothing.
-use Prim.Native.Nat.{ℕ, zero, suc, _+_, _-_, _*_, _≤_, _<_, max}
+use Prim.Native.Nat.{ℕ, zero, suc, _+_, _-_, _≤_, _<_, max}
 use native.Mathlib.Decide.{decLt}
 use native.Mathlib.Omega.{arith}
-use mathlib.Core.Path.{_≡_, refl, ap, sym, _∙_}
+use mathlib.Core.Path.{_≡_, refl, sym, _∙_}
 use mathlib.Core.Bool.{Bool, true, false, cond, false≢true}
 use mathlib.Core.Logic.{_⊎_, inl, inr, ⊎-elim, by-cases}
-use mathlib.Core.List.{List, [], _∷_}
+use mathlib.Core.List.{List}
 use mathlib.Mathlib.Data.Bool.Basic.{eq-false-of-not-eq-true}
 use lib.ListN.{length, getD, set, replicate, length-set, length-replicate}
 use lib.Seq.{getD-set-same, getD-set-other}
@@ -16,83 +16,12 @@ use Rattle.diagram.specs.Words.{wordAt}
 use Rattle.diagram.specs.Score.{implies}
 use Rattle.diagram.proofs.Every.{both, and-true-both}
 use Rattle.diagram.proofs.Implication.{implies-false-end, implies-true-end, implies-same, implies-ends}
-use Rattle.reading.specs.Nodes.{recordsOf, endOf, Held, Pairs, next, smaller, cell, AtOnce, zeros, OnlyKnown, Room, PassedOn, Waits, Stack, Explored}
+use Rattle.reading.specs.Nodes.{recordsOf, endOf, Held, Pairs, next, smaller, cell, AtOnce, zeros, Marked, Room, PassedOn, Waits, Stack, Explored}
+use Rattle.reading.proofs.Cells.{cell-le, origin-cell, only-known, zeros-marked}
 use Rattle.reading.proofs.Pairing.{Meets, next-le, next-less, next-later, next-split, position-few, held-chance, held-choice}
 
 -- ---------------------------------------------------------------------------
--- Cells
-
--- a cell where one is set: that one, or one that is as it was
-set-cell : (l : List ℕ) (i j x : ℕ) → ((j ≡ i) × (getD (set l i x) j 0 ≡ x)) ⊎ (getD (set l i x) j 0 ≡ getD l j 0)
-set-cell [] i j x = inr refl
-set-cell (y ∷ l) zero zero x = inl (refl, refl)
-set-cell (y ∷ l) zero (suc j) x = inr refl
-set-cell (y ∷ l) (suc i) zero x = inr refl
-set-cell (y ∷ l) (suc i) (suc j) x = ⊎-elim (λ h. inl (ap suc (h .0), h .1)) (λ h. inr h) (set-cell l i j x)
-
--- a cell that is 1 stays so where another is set to 1
-stays : (l : List ℕ) (i j : ℕ) → getD l j 0 ≡ 1 → getD (set l i 1) j 0 ≡ 1
-stays l i j e = ⊎-elim (λ h. h .1) (λ h. h ∙ e) (set-cell l i j 1)
-
--- cells of 0 and 1 stay such
-bits-set : (l : List ℕ) (i : ℕ) → ((j : ℕ) → getD l j 0 ≤ 1) → (j : ℕ) → getD (set l i 1) j 0 ≤ 1
-bits-set l i h j = ⊎-elim (λ e. omega arith) (λ e. omega (arith, h j)) (set-cell l i j 1)
-
--- a cell that is set to 1 is no more 0
-zeros-set : (l : List ℕ) (i : ℕ) → i < length l → zeros (set l i 1) + (1 - getD l i 0) ≡ zeros l
-unfolding zeros
-zeros-set [] i h = absurd (omega arith)
-zeros-set (zero ∷ l) zero h = omega arith
-zeros-set (suc x ∷ l) zero h = omega arith
-zeros-set (zero ∷ l) (suc i) h = omega (arith, zeros-set l i (omega arith))
-zeros-set (suc x ∷ l) (suc i) h = zeros-set l i (omega arith)
-
--- a cell of zeros
-zeros-at : (n i : ℕ) → _≡_ {A = ℕ} (getD (replicate n 0) i 0) 0
-zeros-at zero i = refl
-zeros-at (suc n) zero = refl
-zeros-at (suc n) (suc i) = zeros-at n i
-
--- ---------------------------------------------------------------------------
 -- The start
-
--- where every cell is 0, no pair is marked
-pub marked-none : {met : List ℕ} → met ≡ replicate 65536 0 → OnlyKnown met
-marked-none e =
-    rw e (record {
-      size = length-replicate {A = ℕ} 65536 0;
-      bits = λ i. omega (arith, zeros-at 65536 i);
-      known = λ m n _ _ f. absurd (omega (arith, zeros-at 65536 (m * 256 + n)));
-    })
-
--- one more pair that is known at once
-marked-more : {met : List ℕ} {m n i : ℕ} → OnlyKnown met → n < 256 → AtOnce m n → i ≡ m * 256 + n → OnlyKnown (set met i 1)
-marked-more {met} {m} {n} {i} h small once e =
-    record {
-      size = simp length-set (h .size);
-      bits = bits-set met i (h .bits);
-      known = λ a b la lb f. ⊎-elim
-          (λ g.
-          let p : a ≡ m = omega arith in
-          let q : b ≡ n = omega arith in
-          rw (p, q) once)
-          (λ g. h .known a b la lb (sym g ∙ f))
-          (set-cell met i (a * 256 + b) 1);
-    }
-
--- the first cell is 1 from the first turn on
-first-marked : {met : List ℕ} (i : ℕ) → OnlyKnown met → (0 < i → getD met 0 0 ≡ 1) → getD (set met i 1) 0 0 ≡ 1
-first-marked {met} zero h e =
-    let size = h .size in
-    getD-set-same met 0 1 0 (omega arith)
-first-marked {met} (suc i) h e = stays met (suc i) 0 (e (omega arith))
-
--- a turn marks the pairs 0, i and i, 1 and i, i
-pub mark-turn : {met met′ : List ℕ} {i p q r : ℕ} → OnlyKnown met → (0 < i → getD met 0 0 ≡ 1) → i < 256 → p ≡ i → q ≡ i * 256 + 1 → r ≡ i * 256 + i → met′ ≡ set (set (set met p 1) q 1) r 1 → OnlyKnown met′ × (getD met′ 0 0 ≡ 1)
-mark-turn {met} {i} {p} {q} {r} h first l ep eq er e =
-    let once = marked-more {m = 0} {i = p} h l (inl refl) (omega arith) in
-    let twice = marked-more {m = i} {n = 1} once (omega arith) (inr (inl refl)) eq in
-    rw e (marked-more {m = i} twice l (inr (inr refl)) er, stays (set (set met p 1) q 1) r 0 (stays (set met p 1) q 0 (rw ep (first-marked i h first))))
 
 -- what is known at once holds
 at-once : (v : ℕ) (rs : List Record) (m n : ℕ) → AtOnce m n → implies v rs m n ≡ true
@@ -101,19 +30,19 @@ at-once v rs m n (inr (inl e)) = rw e (implies-true-end v rs m)
 at-once v rs m n (inr (inr e)) = rw e (implies-same v rs n)
 
 -- the stack with nothing on it
-pub start : {ps hs ls met firsts seconds : List ℕ} → Pairs ps hs ls → OnlyKnown met → getD met 0 0 ≡ 1 → length firsts ≡ 128 → length seconds ≡ 128 → Stack ps hs ls met firsts seconds 0 0 0 0 0
-start {ps} {hs} {ls} {met} pairs marked first p q =
-    record {
+pub start : {ps hs ls met firsts seconds : List ℕ} → Pairs ps hs ls → met ≡ replicate 1024 0 → length firsts ≡ 128 → length seconds ≡ 128 → Stack ps hs ls met firsts seconds 0 0 0 0 0
+start {ps} {hs} {ls} pairs none p q =
+    rw none (record {
       pairs = pairs;
-      room = record { size = marked .size; firstsSize = p; secondsSize = q; bits = marked .bits; shallow = omega arith };
-      asked = first;
-      origin = first;
+      room = record { size = length-replicate {A = ℕ} 1024 0; firstsSize = p; secondsSize = q; shallow = omega arith };
+      asked = origin-cell (replicate 1024 0);
+      origin = origin-cell (replicate 1024 0);
       small = λ j l. absurd (omega arith);
       waiting = λ j l. absurd (omega arith);
       deep = λ j l. absurd (omega arith);
-      traced = λ m n lm ln e. inl (marked .known m n lm ln e);
-      right = λ _ m n lm ln e. at-once (endOf ps) (recordsOf ps hs ls) m n (marked .known m n lm ln e);
-    }
+      traced = λ m n lm ln e. inl (only-known 1024 m n e);
+      right = λ _ m n lm ln e. at-once (endOf ps) (recordsOf ps hs ls) m n (only-known 1024 m n e);
+    })
 
 -- ---------------------------------------------------------------------------
 -- A pair is met
@@ -123,30 +52,23 @@ pub record Meeting (met firsts seconds : List ℕ) (depth m n : ℕ) (met′ fir
   pub m-small : m < 256
   pub n-small : n < 256
   pub end : depth′ ≡ depth + (1 - cell met m n)
-  pub cells : met′ ≡ set met (m * 256 + n) 1
+  pub cells : Marked met met′ m n
   pub ones : firsts′ ≡ set firsts depth m
   pub twos : seconds′ ≡ set seconds depth n
 
 module _ {ps hs ls met firsts seconds met′ firsts′ seconds′ : List ℕ} {c d x y depth depth′ m n : ℕ} (h : Stack ps hs ls met firsts seconds c d x y depth) (g : Meeting met firsts seconds depth m n met′ firsts′ seconds′ depth′) where
-  within : m * 256 + n < length met
-  within =
-      let size = h .room .size in
-      let m-small = g .m-small in
-      let n-small = g .n-small in
-      omega arith
-
   -- what is still to be met and what waits are as many as before
   met-left : zeros met′ + depth′ ≡ zeros met + depth
   met-left =
       let end = g .end in
-      rw (g .cells) (omega (arith, zeros-set met (m * 256 + n) within))
+      omega (arith, zeros-marked (g .cells) (g .m-small) (g .n-small))
 
   -- a pair that was met before is so now, and m, n is
   kept : (a b : ℕ) → cell met a b ≡ 1 → cell met′ a b ≡ 1
-  kept a b e = rw (g .cells) (stays met (m * 256 + n) (a * 256 + b) e)
+  kept = g .cells .kept
 
   here : cell met′ m n ≡ 1
-  here = rw (g .cells) (getD-set-same met (m * 256 + n) 1 0 within)
+  here = g .cells .here
 
   -- the stack is as it was, and m, n stands on it
   first-kept : (j : ℕ) → j < depth → getD firsts′ j 0 ≡ getD firsts j 0
@@ -194,12 +116,7 @@ module _ {ps hs ls met firsts seconds met′ firsts′ seconds′ : List ℕ} {c
   -- a pair that was not met before and is so now is m, n
   fresh : (a b : ℕ) → a < 256 → b < 256 → cell met a b < 1 → cell met′ a b ≡ 1 → (a ≡ m) × (b ≡ n)
   fresh a b la lb f e =
-      let m-small = g .m-small in
-      let n-small = g .n-small in
-      ⊎-elim
-      (λ same. let i = same .0 in (omega arith, omega arith))
-      (λ same. absurd (omega (arith, sym same ∙ rw (g .cells) at e)))
-      (set-cell met (m * 256 + n) (a * 256 + b) 1)
+      ⊎-elim (λ same. same) (λ same. absurd (omega (arith, same))) (g .cells .others a b la lb)
 
   fresh-waits : (a b : ℕ) → cell met a b < 1 → (a ≡ m) × (b ≡ n) → Waits firsts′ seconds′ depth′ a b
   fresh-waits a b f (p, q) =
@@ -221,10 +138,9 @@ module _ {ps hs ls met firsts seconds met′ firsts′ seconds′ : List ℕ} {c
     roomy : Room met′ firsts′ seconds′ depth′
     roomy =
         record {
-          size = rw (g .cells) (simp length-set (h .room .size));
+          size = g .cells .size ∙ h .room .size;
           firstsSize = rw (g .ones) (simp length-set (h .room .firstsSize));
           secondsSize = rw (g .twos) (simp length-set (h .room .secondsSize));
-          bits = rw (g .cells) (bits-set met (m * 256 + n) (h .room .bits));
           shallow = still-shallow;
         }
 
@@ -241,10 +157,10 @@ module _ {ps hs ls met firsts seconds met′ firsts′ seconds′ : List ℕ} {c
           deep = each-slot (λ j a b. j ≤ smaller ps a b + 1) (h .deep) late;
           traced = λ a b la lb e. by-cases (decLt (cell met a b) 1)
               (λ f. inr (inr (inl (fresh-waits a b f (fresh a b la lb f e)))))
-              (λ f. let bit = h .room .bits (a * 256 + b) in carried a b (h .traced a b la lb (omega arith)));
+              (λ f. let bit = cell-le met a b in carried a b (h .traced a b la lb (omega arith)));
           right = λ t a b la lb e. by-cases (decLt (cell met a b) 1)
               (λ f. let same = fresh a b la lb f e in rw (same .0, same .1) (sound t .1))
-              (λ f. let bit = h .room .bits (a * 256 + b) in h .right (sound t .0) a b la lb (omega arith));
+              (λ f. let bit = cell-le met a b in h .right (sound t .0) a b la lb (omega arith));
         }
 
 -- ---------------------------------------------------------------------------
@@ -322,7 +238,6 @@ module _ {ps hs ls met firsts seconds : List ℕ} {a b top m n : ℕ} (h : Stack
           size = h .room .size;
           firstsSize = h .room .firstsSize;
           secondsSize = h .room .secondsSize;
-          bits = h .room .bits;
           shallow = omega arith;
         };
         asked = h .asked;
@@ -397,15 +312,14 @@ module _ {ps hs ls met firsts seconds met₁ firsts₁ seconds₁ : List ℕ} {a
 
 module _ {ps hs ls met firsts seconds : List ℕ} {a b : ℕ} (h : Stack ps hs ls met firsts seconds a b 0 0 0) where
   -- the pair of true and false does not imply
-  refuted : (getD met 256 0 ≡ 0 → ⊥) → implies (endOf ps) (recordsOf ps hs ls) a b ≡ false
+  refuted : cell met 1 0 ≡ 1 → implies (endOf ps) (recordsOf ps hs ls) a b ≡ false
   refuted e =
-      let bit = h .room .bits 256 in
-      eq-false-of-not-eq-true (λ t. false≢true (sym (implies-ends _ _) ∙ h .right t 1 0 (omega arith) (omega arith) (omega arith)))
+      eq-false-of-not-eq-true (λ t. false≢true (sym (implies-ends _ _) ∙ h .right t 1 0 (omega arith) (omega arith) e))
 
-  module _ (apart : getD met 256 0 ≡ 0) where
+  module _ (apart : cell met 1 0 ≡ 1 → ⊥) where
     ends-imply : (m n : ℕ) → m < 2 → n < 2 → cell met m n ≡ 1 → implies (endOf ps) (recordsOf ps hs ls) m n ≡ true
     ends-imply zero n l k e = implies-false-end _ _ n
-    ends-imply (suc zero) zero l k e = absurd (omega arith)
+    ends-imply (suc zero) zero l k e = absurd (apart e)
     ends-imply (suc zero) (suc zero) l k e = implies-true-end _ _ 1
     ends-imply (suc zero) (suc (suc n)) l k e = absurd (omega arith)
     ends-imply (suc (suc m)) n l k e = absurd (omega arith)

@@ -1,12 +1,12 @@
 -- The arrays by node number that a table's records are copied to, and the stack of pairs of nodes.
-use Prim.Native.Nat.{ℕ, zero, suc, _+_, _*_, _≤_, _<_, min}
+use Prim.Native.Nat.{ℕ, zero, suc, _+_, _-_, _*_, _/_, _%_, _^_, _≤_, _<_, min}
 use mathlib.Core.Path.{_≡_}
-use mathlib.Core.Bool.{true, false, cond}
+use mathlib.Core.Bool.{Bool, true, false, cond}
 use mathlib.Core.Logic.{_⊎_}
 use mathlib.Core.Option.{none}
-use mathlib.Core.List.{List, [], _∷_}
+use mathlib.Core.List.{List, _∷_}
 use lib.ListN.{length, getD}
-use lib.Dec.{leb}
+use lib.Dec.{eqb, leb}
 use Rattle.diagram.specs.Table.{Record, sequence, recordAt, tableOf, variableCount}
 use Rattle.diagram.specs.Score.{implies}
 use Rattle.diagram.specs.Checks.{headingFault, countFault, recordFault, isMonotoneAt}
@@ -55,32 +55,43 @@ next ps cs m n = cond (leb (getD ps m 0) (getD ps n 0)) (getD cs m 0) m
 abbrev pub smaller : List ℕ → (m n : ℕ) → ℕ
 smaller ps m n = min (getD ps m 0) (getD ps n 0)
 
--- The cell of a pair of nodes: 1 where the pair has been met or was marked at the start, and else 0
-abbrev pub cell : List ℕ → (m n : ℕ) → ℕ
-cell met m n = getD met (m * 256 + n) 0
-
 -- The pairs of which it is known at once that the first node implies the second
 abbrev pub AtOnce : (m n : ℕ) → Type 0
 AtOnce m n = (m ≡ 0) ⊎ ((n ≡ 1) ⊎ (m ≡ n))
 
+-- Whether a pair is such
+unfoldable pub isKnown : (m n : ℕ) → Bool
+isKnown m n = cond (eqb m 0) true (cond (eqb n 1) true (eqb m n))
+
+-- The bit of a pair of nodes, of which there are 256 for each first node, in four words
+unfoldable pub bit : List ℕ → (m n : ℕ) → ℕ
+bit met m n = getD met (m * 4 + n / 64) 0 / 2 ^ (n % 64) % 2
+
+-- The cell of a pair of nodes: 1 where the pair is known at once or its bit says that it has been met, and else 0
+unfoldable pub cell : List ℕ → (m n : ℕ) → ℕ
+cell met m n = cond (isKnown m n) 1 (bit met m n)
+
+-- How many of the first pairs have the cell 0
+unfoldable pub zerosBelow : List ℕ → ℕ → ℕ
+zerosBelow met zero = 0
+zerosBelow met (suc i) = zerosBelow met i + (1 - cell met (i / 256) (i % 256))
+
 -- How many cells are 0
 unfoldable pub zeros : List ℕ → ℕ
-zeros [] = 0
-zeros (zero ∷ l) = suc (zeros l)
-zeros (suc x ∷ l) = zeros l
+zeros met = zerosBelow met 65536
 
--- Cells in which only pairs known at once are marked
-pub record OnlyKnown (met : List ℕ) : Type 0 where
-  pub size : length met ≡ 65536
-  pub bits : (i : ℕ) → getD met i 0 ≤ 1
-  pub known : (m n : ℕ) → m < 256 → n < 256 → cell met m n ≡ 1 → AtOnce m n
+-- The cells of met′ are those of met, but for that of the pair m, n, which is 1
+pub record Marked (met met′ : List ℕ) (m n : ℕ) : Type 0 where
+  pub size : length met′ ≡ length met
+  pub here : cell met′ m n ≡ 1
+  pub kept : (p q : ℕ) → cell met p q ≡ 1 → cell met′ p q ≡ 1
+  pub others : (p q : ℕ) → p < 256 → q < 256 → ((p ≡ m) × (q ≡ n)) ⊎ (cell met′ p q ≡ cell met p q)
 
 -- The stack has at most 62 pairs, so that there is room for one more
 pub record Room (met firsts seconds : List ℕ) (depth : ℕ) : Type 0 where
-  pub size : length met ≡ 65536
+  pub size : length met ≡ 1024
   pub firstsSize : length firsts ≡ 128
   pub secondsSize : length seconds ≡ 128
-  pub bits : (i : ℕ) → getD met i 0 ≤ 1
   pub shallow : depth ≤ 62
 
 -- Both pairs that m, n leads to have been met
@@ -111,5 +122,5 @@ pub record Stack (ps hs ls met firsts seconds : List ℕ) (a b m n depth : ℕ) 
 -- What passing on all pairs that record k leads to gives: the pair of true and false is met where the record is not
 -- monotone, and else all pairs met imply
 pub record Explored (s ps hs ls met firsts seconds : List ℕ) (k : ℕ) : Type 0 where
-  pub fault : (getD met 256 0 ≡ 0 → ⊥) → isMonotoneAt (tableOf s) k ≡ false
-  pub passes : getD met 256 0 ≡ 0 → (isMonotoneAt (tableOf s) k ≡ true) × Stack ps hs ls met firsts seconds 0 0 0 0 0
+  pub fault : cell met 1 0 ≡ 1 → isMonotoneAt (tableOf s) k ≡ false
+  pub passes : (cell met 1 0 ≡ 1 → ⊥) → (isMonotoneAt (tableOf s) k ≡ true) × Stack ps hs ls met firsts seconds 0 0 0 0 0

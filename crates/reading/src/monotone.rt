@@ -1,8 +1,9 @@
 // Check 18: at every choice record the low child implies the high one, under every assignment of the variables.
 // A pair of nodes implies where both pairs that it leads to at the smaller position of the two do. So each choice record's pair
-// is put on a stack, the pair on top is taken off and the two that it leads to are put on, unless they have been met, until the
-// stack is empty, and a record is at fault where the pair of true and false is met. A pair leads to pairs at later positions,
-// so that the stack has at most two pairs more than the table has variables.
+// is put on a stack, the pair on top is taken off and the two that it leads to are put on, unless they are known to imply at once
+// or have been met, until the stack is empty, and a record is at fault where the pair of true and false is met. A pair leads to
+// pairs at later positions, so that the stack has at most two pairs more than the table has variables. The pairs met are bits of
+// an array, 256 for each first node.
 use crate::answer::Fault;
 use crate::nodes::child_of;
 use crate::nodes::decode;
@@ -13,12 +14,13 @@ use crate::words::variable_count;
 use diagram::Node;
 use diagram::Position;
 ghost use mathlib.Core.Path.{_≡_};
-ghost use Prim.Native.Nat.{ℕ, suc, _+_, _-_, _*_, _<_};
-ghost use lib.ListN.{getD, set, replicate};
+ghost use Prim.Native.Nat.{ℕ, suc, _+_, _-_, _<_};
+ghost use lib.ListN.{length, set};
+ghost use lib.Dec.{eqb};
 ghost use Rattle.diagram.specs.Table.{recordCount};
 ghost use Rattle.diagram.specs.Checks.{monotoneFault};
 ghost use Rattle.reading.specs.Answer.{faultOf};
-ghost use Rattle.reading.specs.Nodes.{Shaped, Held, next, cell, zeros, OnlyKnown, Room, Stack, Explored};
+ghost use Rattle.reading.specs.Nodes.{Shaped, Held, next, isKnown, cell, zeros, Marked, Room, Stack, Explored};
 
 // Check 18. The checks before have shown what is required.
 pub fn monotone_fault(file: &[u8]) -> Fault
@@ -28,11 +30,10 @@ pub fn monotone_fault(file: &[u8]) -> Fault
     let mut positions = [0u8; 256];
     let mut high = [0u8; 256];
     let mut low = [0u8; 256];
-    let mut met = [0u8; 65536];
+    let mut met = [0u64; 1024];
     let mut firsts = [0u8; 128];
     let mut seconds = [0u8; 128];
     decode(file, &mut positions, &mut high, &mut low);
-    mark_known(&mut met);
     first_fault(
         file,
         &mut met,
@@ -44,25 +45,10 @@ pub fn monotone_fault(file: &[u8]) -> Fault
     )
 }
 
-// Marks the pairs that are known to imply at once: false implies every node, every node implies true, and each itself.
-fn mark_known(met: &mut [u8; 65536])
-    requires { ⌜ now met ≡ replicate 65536 0 ⌝ }
-    ensures marked { λ _. ⌜ OnlyKnown (now (met .exit)) ⌝ }
-    ensures first { λ _. ⌜ getD (now (met .exit)) 0 0 ≡ 1 ⌝ }
-{
-    let mut i = 0;
-    while i < 256 {
-        met[i] = 1;
-        met[i * 256 + 1] = 1;
-        met[i * 256 + i] = 1;
-        i += 1;
-    }
-}
-
 // The first record at fault. The arrays hold the file's records.
 fn first_fault(
     file: &[u8],
-    met: &mut [u8; 65536],
+    met: &mut [u64; 1024],
     firsts: &mut [u8; 128],
     seconds: &mut [u8; 128],
     positions: &[u8; 256],
@@ -77,7 +63,7 @@ fn first_fault(
     let mut k = 0;
     while k < n {
         explore_record(file, met, firsts, seconds, positions, high, low, k);
-        if met[256] != 0 {
+        if is_met(met, Node::new(1), Node::new(0)) {
             return Fault::At(end.word() + k);
         }
         k += 1;
@@ -88,7 +74,7 @@ fn first_fault(
 // Meets the pair of a choice record's children, low and high, and all pairs that it leads to.
 fn explore_record(
     file: &[u8],
-    met: &mut [u8; 65536],
+    met: &mut [u64; 1024],
     firsts: &mut [u8; 128],
     seconds: &mut [u8; 128],
     positions: &[u8; 256],
@@ -116,7 +102,7 @@ fn explore_record(
 
 // Passes on every pair of the stack, and those that are met on the way, until the stack is empty.
 fn explore(
-    met: &mut [u8; 65536],
+    met: &mut [u64; 1024],
     firsts: &mut [u8; 128],
     seconds: &mut [u8; 128],
     positions: &[u8; 256],
@@ -136,7 +122,7 @@ fn explore(
 
 // Takes the pair at top off and meets the two pairs that it leads to. Answers the new depth.
 fn pass_on(
-    met: &mut [u8; 65536],
+    met: &mut [u64; 1024],
     firsts: &mut [u8; 128],
     seconds: &mut [u8; 128],
     positions: &[u8; 256],
@@ -169,9 +155,9 @@ fn step(positions: &[u8; 256], children: &[u8; 256], m: Node, n: Node) -> Node
     if p.number() <= q.number() { child } else { m }
 }
 
-// Writes a pair on top of the stack, whose depth rises only where the pair has not been met before.
+// Writes a pair on top of the stack, whose depth rises only where the pair is neither known to imply nor met before.
 fn meet(
-    met: &mut [u8; 65536],
+    met: &mut [u64; 1024],
     firsts: &mut [u8; 128],
     seconds: &mut [u8; 128],
     depth: usize,
@@ -180,14 +166,48 @@ fn meet(
 ) -> usize
     requires { ⌜ Room (now met) (now firsts) (now seconds) depth ⌝ }
     ensures depth { λ r. ⌜ r ≡ depth + (1 - cell (now (met .entry)) (m .0) (n .0)) ⌝ }
-    ensures met { λ _. ⌜ now (met .exit) ≡ set (now (met .entry)) (m .0 * 256 + n .0) 1 ⌝ }
+    ensures met { λ _. ⌜ Marked (now (met .entry)) (now (met .exit)) (m .0) (n .0) ⌝ }
     ensures firsts { λ _. ⌜ now (firsts .exit) ≡ set (now (firsts .entry)) depth (m .0) ⌝ }
     ensures seconds { λ _. ⌜ now (seconds .exit) ≡ set (now (seconds .entry)) depth (n .0) ⌝ }
 {
-    let i = m.number() * 256 + n.number();
     firsts[depth] = m.byte();
     seconds[depth] = n.byte();
-    let fresh = 1 - met[i];
-    met[i] = 1;
-    depth + fresh as usize
+    if is_met(met, m, n) {
+        return depth;
+    }
+    mark(met, m, n);
+    depth + 1
+}
+
+// Whether a pair is known to imply at once or its bit says that it has been met.
+fn is_met(met: &[u64; 1024], m: Node, n: Node) -> bool
+    ensures { λ r. ⌜ r ≡ eqb (cell (now (met .entry)) (m .0) (n .0)) 1 ⌝ }
+{
+    if is_known(m, n) {
+        return true;
+    }
+    let word = met[m.number() * 4 + n.number() / 64];
+    (word >> (n.number() % 64)) % 2 == 1
+}
+
+// Whether a pair is known to imply at once: false implies every node, every node implies true, and each itself.
+fn is_known(m: Node, n: Node) -> bool
+    ensures { λ r. ⌜ r ≡ isKnown (m .0) (n .0) ⌝ }
+{
+    if m.number() == 0 {
+        return true;
+    }
+    if n.number() == 1 {
+        return true;
+    }
+    m.number() == n.number()
+}
+
+// Marks a pair as met that is neither known to imply nor met before.
+fn mark(met: &mut [u64; 1024], m: Node, n: Node)
+    requires { ⌜ (length (now met) ≡ 1024) × (cell (now met) (m .0) (n .0) ≡ 0) ⌝ }
+    ensures { λ _. ⌜ Marked (now (met .entry)) (now (met .exit)) (m .0) (n .0) ⌝ }
+{
+    let i = m.number() * 4 + n.number() / 64;
+    met[i] |= 1 << (n.number() % 64);
 }

@@ -2,14 +2,16 @@
 -- pairs met imply. Assumes nothing.
 use Prim.Native.Nat.{_+_, _-_}
 use native.Mathlib.Omega.{arith}
-use mathlib.Core.Path.{_≡_, ap, sym, _∙_}
+use mathlib.Core.Path.{_≡_, refl, ap, sym, _∙_}
+use lib.Dec.{eqb}
 use borrow.Author.Needs.{needs}
 use Rattle.diagram.specs.Table.{variableCount, recordCount}
 use Rattle.diagram.specs.Checks.{firstPlace, monotoneFault}
 use Rattle.diagram.proofs.Places.{place-start, place-here, place-next, place-end}
 use Rattle.reading.specs.Answer.{faultOf}
-use Rattle.reading.specs.Nodes.{Stack}
+use Rattle.reading.specs.Nodes.{cell, Stack}
 use Rattle.reading.specs.declared.answer.Fault.the-variants.{At}
+use Rattle.reading.proofs.Cells.{tested-one, tested-zero}
 use Rattle.reading.proofs.Pairing.{unmonotone-at, unmonotone-test}
 use Rattle.reading.proofs.monotone.first_fault.Statement.{statement}
 use Rattle.reading.proofs.monotone.first_fault.Tie as tie
@@ -43,22 +45,32 @@ loop-holds c =
 explore-record-requires : tie.Need-explore-record-requires Inv-loop μ-loop
 explore-record-requires c κs = (c .before .before .before .before .before .before .before .before .before .pre .0, omega arith, c .before .before .before .before .loop .inv .2)
 
-element-copy-out-if1 : tie.Need-element-copy-out-if1 Inv-loop μ-loop
-element-copy-out-if1 c = search needs
+new-requires-2 : tie.Need-new-requires-2 Inv-loop μ-loop
+new-requires-2 c κs = search needs
+
+new-requires-3 : tie.Need-new-requires-3 Inv-loop μ-loop
+new-requires-3 c κs = search needs
+
+-- the pair that is tested
+ends : (c : tie.After-is-met Inv-loop μ-loop) → c .is-met .result ≡ eqb (cell (c .before .before .before .before .explore-record .last .1 .0) 1 0) 1
+ends c = c .is-met .ensures ∙ rw (c .before .before .new2 .ensures, c .before .new3 .ensures) refl
+
+is-met-requires : tie.Need-is-met-requires Inv-loop μ-loop
+is-met-requires c κs = search needs
 
 word-requires : tie.Need-word-requires Inv-loop μ-loop
 word-requires c κs = search needs
 
-add-t21 : tie.Need-add-t21 Inv-loop μ-loop
-add-t21 c = omega arith
+add-t22 : tie.Need-add-t22 Inv-loop μ-loop
+add-t22 c = omega arith
 
 returns : tie.Need-returns Inv-loop μ-loop
 unfolding faultOf
 returns c =
-    let at = c .before .before .before .before .before .before .before .before .loop in
-    let s = c .before .before .before .before .before .before .before .before .before .before .before .before .before .args .file .now in
+    let at = c .before .before .before .before .before .before .before .before .before .before .before .loop in
+    let s = c .before .before .before .before .before .before .before .before .before .before .before .before .before .before .before .before .args .file .now in
     let place : c .word .result + at .k ≡ 1 + variableCount s + at .k = omega (arith, c .word .ensures) in
-    let fault = sym (c .before .before .before .explore-record .ensures .fault (c .before .if1 .taken)) in
+    let fault = sym (c .before .before .before .before .before .before .explore-record .ensures .fault (tested-one _ 1 0 (ends (c .before .before)) (c .before .if1 .taken))) in
     rw (at .inv .3, place-here (unmonotone-at s) (1 + variableCount s) (recordCount s) (at .k) (omega arith) (unmonotone-test s (at .k) fault)) (ap At place)
 
 add-k : tie.Need-add-k Inv-loop μ-loop
@@ -69,9 +81,10 @@ loop-less c = omega arith
 
 loop-again : tie.Need-loop-again Inv-loop μ-loop
 loop-again c =
-    let at = c .before .before .before .before .before .before .before .loop in
-    let s = c .before .before .before .before .before .before .before .before .before .before .before .before .args .file .now in
-    let passes = c .before .before .explore-record .ensures .passes (c .if1 .left) in
+    let at = c .before .before .before .before .before .before .before .before .before .before .loop in
+    let s = c .before .before .before .before .before .before .before .before .before .before .before .before .before .before .before .args .file .now in
+    let zero = tested-zero _ 1 0 (ends (c .before)) (c .if1 .left) in
+    let passes = c .before .before .before .before .before .explore-record .ensures .passes (λ one. omega (arith, zero, one)) in
     (at .inv .0, at .inv .1, passes .1, at .inv .3 ∙ place-next (unmonotone-at s) (1 + variableCount s) (recordCount s) (at .k) (omega arith) (unmonotone-test s (at .k) (sym (passes .0))))
 
 returns-2 : tie.Need-returns-2 Inv-loop μ-loop
@@ -91,9 +104,11 @@ first-fault-spec =
     record-count-requires
     loop-holds
     explore-record-requires
-    element-copy-out-if1
+    new-requires-2
+    new-requires-3
+    is-met-requires
     word-requires
-    add-t21
+    add-t22
     returns
     add-k
     loop-less

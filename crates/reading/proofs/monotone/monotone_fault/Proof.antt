@@ -1,5 +1,6 @@
 -- `monotone_fault` meets its contract: the arrays hold the file's records, and the stack starts with nothing on it.
 -- Assumes nothing.
+use mathlib.Core.Path.{refl}
 use Rattle.reading.specs.Nodes.{Held}
 use Rattle.reading.proofs.Pairing.{held-pairs}
 use Rattle.reading.proofs.Stacking.{start}
@@ -15,18 +16,14 @@ held c =
 decode-requires : tie.Need-decode-requires
 decode-requires c κs = search needs
 
-mark-known-requires : tie.Need-mark-known-requires
-mark-known-requires c κs = search needs
-
 first-fault-requires : tie.Need-first-fault-requires
 first-fault-requires c κs =
-    let h = held (c .before .before .before .before .before .before .before .before) in
-    let marked = c .before .before .before .before .before .before .mark-known .ensures in
-    (h, start (held-pairs h) (marked .0) (marked .1) (search needs) (search needs))
+    let h = held (c .before .before .before .before .before .before) in
+    (h, start (held-pairs h) refl (search needs) (search needs))
 
 returns : tie.Need-returns
 returns c = search needs
 
 pub monotone-fault-spec : {M : Type 1} → statement M
 monotone-fault-spec =
-    tie.close (tie.spec decode-requires mark-known-requires first-fault-requires returns)
+    tie.close (tie.spec decode-requires first-fault-requires returns)

@@ -14,7 +14,7 @@ high-meeting c =
 low-meeting : (c : tie.After-meet2) → Meeting (c .before .before .before .before .meet .last .0) (c .before .before .before .before .meet .last .1 .0) (c .before .before .before .before .meet .last .1 .1 .0) (c .before .before .before .before .meet .result) (c .before .before .before .before .before .before .before .before .before .step3 .result .0) (c .before .before .before .before .before .before .before .before .step4 .result .0) (c .meet2 .last .0) (c .meet2 .last .1 .0) (c .meet2 .last .1 .1 .0) (c .meet2 .result)
 low-meeting c =
     let e = c .meet2 .ensures in
-    record { m-small = search needs; n-small = search needs; end = e .0; cells = e .1 .0; ones = e .1 .1 .0; twos = e .1 .1 .1 }
+    record { m-small = search (needs, c .before .before .before .before .before .before .before .before .before .step3 .ok); n-small = search (needs, c .before .before .before .before .before .before .before .before .step4 .ok); end = e .0; cells = e .1 .0; ones = e .1 .1 .0; twos = e .1 .1 .1 }
 
 -- there is room for the second
 between : (c : tie.After-meet) → Room (c .meet .last .0) (c .meet .last .1 .0) (c .meet .last .1 .1 .0) (c .meet .result)
