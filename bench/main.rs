@@ -1,4 +1,6 @@
 //! The proved library beside plain Rust, in one run: first every answer, which has to be the same, then the times.
+#[cfg(before)]
+mod before;
 mod compare;
 #[path = "../examples/jigbalo.rs"]
 mod jigbalo;

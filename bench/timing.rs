@@ -74,21 +74,38 @@ fn times<const N: usize>(rounds: usize, calls: u32, mut run: impl FnMut(usize)) 
     least
 }
 
-/// The library's search, or a plain one.
-fn search(form: Option<Form>, file: &[u8], kits: u32) -> (Result<Finding, Refusal>, [u8; 20]) {
+/// Whose search it is.
+#[derive(Clone, Copy, PartialEq, Eq)]
+enum Program {
+    Library,
+    #[cfg(before)]
+    Before,
+    Plain(Form),
+}
+
+const PROGRAMS: &[Program] = &[
+    Program::Library,
+    #[cfg(before)]
+    Program::Before,
+    Program::Plain(Form::PassUp),
+    Program::Plain(Form::Layers),
+    Program::Plain(Form::Sweeps),
+];
+
+fn search(program: Program, file: &[u8], kits: u32) -> (Result<Finding, Refusal>, [u8; 20]) {
     let mut plan = [0; 20];
-    let answer = match form {
-        None => jigbalo::search(file, &OPEN, kits, 0, &mut plan),
-        Some(form) => plain::search(form, file, &OPEN, kits, 0, &mut plan),
+    let answer = match program {
+        Program::Library => jigbalo::search(file, &OPEN, kits, 0, &mut plan),
+        #[cfg(before)]
+        Program::Before => crate::before::search(file, &OPEN, kits, 0, &mut plan),
+        Program::Plain(form) => plain::search(form, file, &OPEN, kits, 0, &mut plan),
     };
     (answer, plan)
 }
 
-const FORMS: [Option<Form>; 4] = [None, Some(Form::PassUp), Some(Form::Layers), Some(Form::Sweeps)];
-
 fn line(job: &Job) {
     let file = &job.draft.file()[..];
-    let answers = FORMS.map(|form| search(form, file, job.kits));
+    let answers: Vec<_> = PROGRAMS.iter().map(|&program| search(program, file, job.kits)).collect();
     assert!(answers[1..].iter().all(|other| *other == answers[0]), "{answers:?}");
     assert!(answers[0].0.is_ok_and(|found| found.visits == job.visits));
 
@@ -102,9 +119,9 @@ fn line(job: &Job) {
         let top = if i == 0 { jigbalo::sweep(file, &OPEN, &mut drops) } else { plain::sweep(file, &OPEN, &mut drops) };
         black_box(top).ok();
     });
-    let rounds = (1_000_000 / job.visits as usize).clamp(5, 60);
-    let [library, up, layers, sweeps] = times(rounds, 1, |i| {
-        black_box(search(FORMS[i], black_box(file), job.kits)).0.ok();
+    let rounds = (4_000_000 / job.visits as usize).clamp(7, 200);
+    let visit: [f64; PROGRAMS.len()] = times(rounds, 1, |i| {
+        black_box(search(PROGRAMS[i], black_box(file), job.kits)).0.ok();
     })
     .map(|x| x / job.visits as f64);
 
@@ -112,9 +129,9 @@ fn line(job: &Job) {
     for (ours, theirs) in [(read, plain_read), (sweep, plain_sweep)] {
         print!(" | {:>7.1} {:>5.1} {:>5.2}", ours / 1e3, theirs / 1e3, ours / theirs);
     }
-    print!(" | {library:>7.0}");
-    for theirs in [up, layers, sweeps] {
-        print!(" {theirs:>7.0} {:>5.2}", library / theirs);
+    print!(" | {:>7.1}", visit[0]);
+    for theirs in &visit[1..] {
+        print!(" {theirs:>7.1} {:>5.2}", visit[0] / theirs);
     }
     println!();
 }
@@ -124,7 +141,8 @@ pub fn table() {
     println!("{:<30} | {:<19} | {:<19} | search, ns a visit", "", "read, µs", "sweep, µs");
     println!(
         "job       records kits  visits | library plain ratio | library plain ratio | library \
-         pass up ratio  layers ratio  sweeps ratio"
+         {}pass up ratio  layers ratio  sweeps ratio",
+        if cfg!(before) { " before ratio " } else { "" }
     );
     for (needed, kits) in [(10, 3), (10, 5), (8, 9)] {
         line(&threshold(needed, kits));

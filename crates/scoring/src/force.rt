@@ -69,7 +69,8 @@ pub fn mark_at(marks: &[u8; 64], at: Position) -> u8
     marks[p]
 }
 
-fn high_weight(mark: u8, arc: u64) -> u64
+// The weight of a hi arc under a mark: 0 where the line is left.
+pub fn high_weight(mark: u8, arc: u64) -> u64
     ensures { λ r. ⌜ r ≡ highInForce mark arc ⌝ }
 {
     if mark == Plan::LEFT { 0 } else { arc }

@@ -13,6 +13,7 @@ pub use bound::upper_bound;
 pub use bound::value_of;
 pub use bound::values_of;
 use diagram::Refusal;
+pub use force::high_weight;
 pub use force::in_force;
 pub use force::mark_at;
 pub use force::marks_by_position;

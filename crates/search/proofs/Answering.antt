@@ -1,28 +1,37 @@
 -- What `search` answers and what it leaves in its buffer, from what the checks and the visits leave.
 -- Assumes of a request that the checks let through that what is held and counted is the visit rule's (`explore`).
-use Prim.Native.Nat.{ℕ, suc, _+_, _≤_, _^_}
+use Prim.Native.Nat.{ℕ, suc, _+_, _-_, _*_, _≤_, _^_}
+use native.Mathlib.Nat.{mul-le-mul-right}
 use native.Mathlib.Omega.{arith}
-use mathlib.Core.Path.{_≡_, refl, ap, sym, _∙_}
-use mathlib.Core.Bool.{true, false}
+use mathlib.Core.Path.{_≡_, refl, sym, _∙_}
 use mathlib.Core.List.{List}
-use lib.ListN.{length}
+use mathlib.Core.Option.{Option, none, some}
+use lib.ListN.{length, getD, take, replicate, length-append, length-replicate}
 use lib.Pow.{pow-pos}
-use Rattle.diagram.specs.Table.{tableOf}
-use Rattle.diagram.specs.Plans.{openCount}
+use lib.Seq.{take-append-seam}
+use borrow.Author.Tests.{ltb-false, le-ltb}
+use Rattle.diagram.specs.Table.{Table, tableOf, scale}
+use Rattle.diagram.specs.Plans.{openCount, passes}
 use Rattle.diagram.specs.Ranking.{bestPlan}
 use Rattle.diagram.specs.Visits as visits
 use Rattle.diagram.specs.Services.{refused, answered, written, Reading, searching, searchOutcome, searchBuffer}
 use Rattle.diagram.specs.declared.refusal.Refusal.{Refusal}
-use Rattle.diagram.proofs.Checked.{Passed}
-use Rattle.reading.proofs.Accepted.{passed-formed, passed-monotone}
+use Rattle.reading.proofs.Accepted.{passed-choices, passed-formed, passed-monotone}
 use Rattle.rule.proofs.Visiting.{visited-first, visits-bounded}
+use Rattle.sweep.specs.Drops.{LargestFailing}
 use Rattle.sweep.specs.Request.{requestOutcome}
-use Rattle.sweep.proofs.Requesting.{proper, search-refused, search-answered}
-use Rattle.search.specs.declared.tally.Tally.{Tally}
+use Rattle.sweep.proofs.Requesting.{Proper, proper, search-refused, search-answered}
 use Rattle.search.specs.declared.answer.SearchAnswer.{SearchAnswer}
 use Rattle.search.specs.declared.answer.SearchAnswer.the-variants.{Found, Refused}
 use Rattle.search.specs.Answer.{searchOf, visitsOf}
-use Rattle.search.specs.State.{rows, heldOf, tallyOf, Fitted}
+use Rattle.search.specs.State.{Explored}
+
+-- the largest score that fails a percentage is at most B
+pub failing-fits : (t : Table) (percent failing : ℕ) → LargestFailing t percent failing → percent ≤ 100 → scale t ≤ 2 ^ 56 → failing ≤ 2 ^ 56
+unfolding passes
+failing-fits t percent failing passing h l =
+    let less = ltb-false (percent * scale t) (100 * failing) (passing failing ∙ le-ltb failing failing (omega arith)) in
+    omega (arith, less, mul-le-mul-right (scale t) h)
 
 module _ (s p held : List ℕ) (budget percent : ℕ) where
   -- What `search` promises of its answer and of its buffer
@@ -41,37 +50,58 @@ module _ (s p held : List ℕ) (budget percent : ℕ) where
   pub search-turned : (x : Refusal) → requestOutcome s p budget percent (length held) ≡ refused (x .number) (x .place) → Promised (Refused x) held
   search-turned x e = refuses x (search-refused s p (length held) percent budget (x .number) (x .place) e)
 
-  module _ (r : Reading) (e : requestOutcome s p budget percent (length held) ≡ answered r) {w : Tally} (told : tallyOf w ≡ visits.visited (tableOf s) budget percent p) (fitted : Fitted (tableOf s) w) where
-    -- no check of a table finds the file at fault
-    passed : Passed s
-    passed = proper s p budget percent (length held) r e .passed
+  module _ (r : Reading) (e : requestOutcome s p budget percent (length held) ≡ answered r) {failing : ℕ} {best tally : List ℕ} (explored : Explored (tableOf s) percent budget failing p best tally) where
+    -- what the checks have found
+    is-proper : Proper s p budget percent (length held)
+    is-proper = proper s p budget percent (length held) r e
 
     -- the best plan is the one held
-    best-held : bestPlan (tableOf s) budget percent p ≡ heldOf w
-    unfolding tallyOf
+    best-held : bestPlan (tableOf s) budget percent p ≡ visits.visited (tableOf s) budget percent p .held
     best-held =
-        sym (visited-first (tableOf s) (passed-formed passed) (passed-monotone passed) budget percent p)
-        ∙ sym (ap (λ (u : visits.Tally). u .held) told)
+        sym (visited-first (tableOf s) (passed-formed (is-proper .passed)) (passed-monotone (is-proper .passed)) budget percent p)
 
     -- the visits are those counted
-    visits-counted : visits.visitCount (tableOf s) budget percent p ≡ w .visits
-    unfolding tallyOf visits.visitCount
-    visits-counted = sym (ap (λ (u : visits.Tally). u .visits) told)
+    visits-counted : visits.visitCount (tableOf s) budget percent p ≡ getD tally 2 0
+    unfolding visits.visitCount
+    visits-counted = sym (explored .counts)
 
     -- 32 where nothing is held
-    pub search-32 : w .held ≡ false → {n i : ℕ} → n ≡ 32 → i ≡ 0 → Promised (Refused (record { number = n; place = i })) held
-    unfolding searching heldOf
-    search-32 f en ei =
-        rw (en, ei)
-        (refuses
-        (record { number = 32; place = 0 })
-        (search-answered s p (length held) percent budget r e ∙ rw (best-held, f, searching) refl))
+    pub search-32 : getD tally 1 0 ≡ 0 → {n i : ℕ} → n ≡ 32 → i ≡ 0 → Promised (Refused (record { number = n; place = i })) held
+    unfolding searching
+    search-32 f {n} {i} en ei = go (visits.visited (tableOf s) budget percent p .held) refl
+      where
+        go : (o : Option (List ℕ)) → visits.visited (tableOf s) budget percent p .held ≡ o → Promised (Refused (record { number = n; place = i })) held
+        go none q =
+            rw (en, ei)
+            (refuses
+            (record { number = 32; place = 0 })
+            (search-answered s p (length held) percent budget r e ∙ rw (best-held, q, searching) refl))
+        go (some b) q =
+            let holding = explored .holds .something b q in
+            absurd (omega (arith, f, holding .room, holding .within))
+
+    -- the plan held has 20 marks, where one is held
+    pub held-long : (getD tally 1 0 ≡ 0 → ⊥) → length best ≡ 20
+    held-long h = go (visits.visited (tableOf s) budget percent p .held) refl
+      where
+        go : (o : Option (List ℕ)) → visits.visited (tableOf s) budget percent p .held ≡ o → length best ≡ 20
+        go none q = absurd (h (explored .holds .nothing q .1))
+        go (some b) q =
+            let holding = explored .holds .something b q in
+            rw (holding .plan, length-append, length-replicate) (omega (arith, holding .size, passed-choices (is-proper .passed)))
 
     -- else the plan held, with its score and the visits
-    pub search-found : w .held ≡ true → {out : List ℕ} → out ≡ rows (w .best) → {x v : ℕ} → x ≡ w .score → v ≡ w .visits → Promised (Found (record { score = x; visits = v })) out
-    unfolding searching heldOf searchOf visitsOf searchBuffer written
-    search-found h {out} q ex ev =
-        let is-found : searching (tableOf s) budget percent p ≡ answered (record { score = w .score; visits = w .visits; plan = out }) = rw (best-held, h, visits-counted, fitted .score h, q, searching) refl in
-        let found = search-answered s p (length held) percent budget r e ∙ is-found in
-        let few = visits-bounded (tableOf s) (passed-formed passed) (passed-monotone passed) budget percent p in
-        rw (ex, ev) (sym found, (rw found refl, omega (arith, visits-counted, few)))
+    pub search-found : (getD tally 1 0 ≡ 0 → ⊥) → {out : List ℕ} → out ≡ take (length held) best → {x v : ℕ} → x ≡ getD tally 0 0 → v ≡ getD tally 2 0 → Promised (Found (record { score = x; visits = v })) out
+    unfolding searching searchOf visitsOf searchBuffer written
+    search-found h {out} w {x} {v} ex ev = go (visits.visited (tableOf s) budget percent p .held) refl
+      where
+        go : (o : Option (List ℕ)) → visits.visited (tableOf s) budget percent p .held ≡ o → Promised (Found (record { score = x; visits = v })) out
+        go none q = absurd (h (explored .holds .nothing q .1))
+        go (some b) q =
+            let holding = explored .holds .something b q in
+            let size : length held ≡ length b = is-proper .sized ∙ sym (holding .size) in
+            let own : out ≡ b = w ∙ rw (size, holding .plan) (take-append-seam b (replicate (20 - length b) 0)) in
+            let is-found : searching (tableOf s) budget percent p ≡ answered (record { score = x; visits = v; plan = out }) = rw (best-held, q, visits-counted, ex, ev, holding .scored, own, searching) refl in
+            let found = search-answered s p (length held) percent budget r e ∙ is-found in
+            let few = visits-bounded (tableOf s) (passed-formed (is-proper .passed)) (passed-monotone (is-proper .passed)) budget percent p in
+            (sym found, (rw found refl, omega (arith, ev, visits-counted, few)))

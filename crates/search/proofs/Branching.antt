@@ -1,199 +1,281 @@
--- A branch with its lowest open line taken, or left, is what the visit rule visits next.
--- Assumes what a search starts from (`Ground`) and what a branch holds (`Stands`).
-use Prim.Native.Nat.{ℕ, zero, suc, _+_, _≤_, _<_}
+-- The plan visited with its lowest open line taken, or left: what its visit is handed.
+-- Assumes what does not change during a search (`Ground`) and what a visit is handed (`Stands`).
+use Prim.Native.Nat.{ℕ, zero, suc, _+_, _-_, _≤_, _<_}
 use native.Mathlib.Nat.{le-refl}
-use native.Mathlib.Numerals.{add-one}
 use native.Mathlib.Omega.{arith}
-use mathlib.Core.Path.{_≡_, ap, sym, _∙_}
+use mathlib.Core.Path.{_≡_, refl, ap, sym, _∙_}
+use mathlib.Core.Bool.{true}
 use mathlib.Core.List.{List, [], _∷_}
-use lib.ListN.{length, getD, set, take, drop, length-set, length-take, drop-of-length-le}
-use lib.Seq.{drop-cons, getD-take, take-set-lt, length-take-le}
-use Rattle.diagram.specs.Table.{Table, choiceCount}
-use Rattle.diagram.specs.Score.{score}
-use Rattle.diagram.specs.Plans as plans
-use Rattle.diagram.specs.Plans.{openCount, takenCount, upperBound}
+use mathlib.Core.Option.{Option}
+use lib.ListN.{length, getD, set, replicate, length-set, List·getD-append}
+use lib.Seq.{getD-set-other, set-append-left, set-getD, set-set}
+use borrow.Author.Tests.{eqb-true}
+use Rattle.diagram.specs.Table.{choiceCount}
+use Rattle.diagram.specs.Plans.{openCount, upperBound, isOpen}
 use Rattle.diagram.specs.Visits.{lowestOpen}
 use Rattle.rule.proofs.Opening.{open-count-set}
-use Rattle.rule.proofs.Instance.{full-taken}
-use Rattle.scoring.specs.Passes.{Marked}
-use Rattle.search.specs.declared.branch.Branch.{Branch}
-use Rattle.search.specs.declared.job.Job.{Job}
-use Rattle.search.specs.State.{rows, openLines, taken, leftOut, Ground, Stands}
-use Rattle.sweep.proofs.Leaving.{openTaken-set}
-use Rattle.search.proofs.OpenLines.{lines-none, lines-lowest, lines-within, lines-open, lines-count, lines-marked, cost-taken, cost-left, taken-same}
-use Rattle.search.proofs.Positions.{marks-set}
+use Rattle.layers.specs.Layers.{Layers, passNodes, ownNodes, dropSum, leaveNodes, Enterable}
+use Rattle.layers.specs.Flows.{Line, Settles, Same}
+use Rattle.search.specs.State.{padded, openLines, numbersFrom, Scene, Ground, Stands}
+use Rattle.search.proofs.OpenLines.{lines-none, lines-lowest, lines-count, lines-within, lines-open, lines-marked, cost-taken, cost-left, taken-same}
+use Rattle.layers.proofs.Weights.{drop-top}
+use Rattle.layers.proofs.Flows as flows
+use Rattle.layers.proofs.Flows.{same-fewer, same-trans}
 
--- a plan takes no more lines than it has
-cost-le : (p : List ℕ) → plans.cost p ≤ length p
-unfolding plans.cost takenCount
-cost-le [] = le-refl 0
-cost-le (zero ∷ p) = omega (arith, cost-le p)
-cost-le (suc zero ∷ p) = omega (arith, cost-le p)
-cost-le (suc (suc m) ∷ p) = omega (arith, cost-le p)
+-- ---------------------------------------------------------------------------
+-- Plans
 
--- legal marks stay legal where a line is left
-legal-left : (p : List ℕ) (d : ℕ) → ((i : ℕ) → getD p i 0 ≤ 2) → (i : ℕ) → getD (set p d 2) i 0 ≤ 2
-legal-left [] d h i = h i
-legal-left (m ∷ p) zero h zero = le-refl 2
-legal-left (m ∷ p) zero h (suc i) = h (suc i)
-legal-left (m ∷ p) (suc d) h zero = h zero
-legal-left (m ∷ p) (suc d) h (suc i) = legal-left p d (λ j. h (suc j)) i
+-- a plan has no more open lines than lines
+open-le : (p : List ℕ) → openCount p ≤ length p
+unfolding openCount
+open-le [] = le-refl 0
+open-le (zero ∷ p) = omega (arith, open-le p)
+open-le (suc m ∷ p) = omega (arith, open-le p)
 
-module _ {t : Table} {percent : ℕ} {at : List ℕ} {job : Job} {ps hs ls ha la numbers : List ℕ} {b : Branch} (ground : Ground t percent at job) (stands : Stands t ps hs ls ha la numbers job b) where
-  -- ---------------------------------------------------------------------------
-  -- A branch with no open line
+-- the mark of an open line is 0
+open-mark : (p : List ℕ) (d : ℕ) → isOpen p d ≡ true → getD p d 0 ≡ 0
+unfolding isOpen
+open-mark [] d o = refl
+open-mark (m ∷ p) zero o = eqb-true m 0 o
+open-mark (m ∷ p) (suc d) o = open-mark p d o
 
-  -- its plan is full
-  pub branch-full : b .settled ≡ job .lines → openCount (rows (b .plan)) ≡ 0
-  branch-full e =
-      let past : length (take (job .lines) numbers) ≤ b .settled = simp length-take (omega arith) in
-      lines-none _ (sym (stands .lines) ∙ drop-of-length-le (take (job .lines) numbers) past)
+-- with the lowest open line marked, the lowest open line comes later
+lowest-later : (p : List ℕ) (m : ℕ) → lowestOpen p < length p → lowestOpen p < lowestOpen (set p (lowestOpen p) (suc m))
+unfolding lowestOpen
+lowest-later [] m h = absurd (omega arith)
+lowest-later (zero ∷ p) m h = omega arith
+lowest-later (suc k ∷ p) m h = omega (arith, lowest-later p m (omega arith))
 
-  -- its bound is its plan's score
-  pub branch-score : b .settled ≡ job .lines → b .bound ≡ score t (rows (b .plan))
-  unfolding upperBound
-  branch-score e = stands .bound ∙ ap (score t) (full-taken (rows (b .plan)) (branch-full e))
+-- with the lowest open line marked, a plan still settles the lowest lines first
+settles-next : {s p : List ℕ} → Settles s p → {d : ℕ} → lowestOpen p ≡ d → isOpen p d ≡ true → d < length p → (m : ℕ) → Settles s (set p d (suc m))
+settles-next {s} {p} settles {d} lowest o within m =
+    let unmarked : getD s d 0 ≡ 0 = sym (settles .later d (omega (arith, lowest))) ∙ open-mark p d o in
+    let later : d < lowestOpen (set p d (suc m)) = rw lowest at (lowest-later p m (omega (arith, lowest, within))) in
+    record {
+      size = length-set p d (suc m) ∙ settles .size;
+      kept = λ i closed. getD-set-other p d i (suc m) 0 (λ e. closed (ap (λ (j : ℕ). getD s j 0) e ∙ unmarked)) ∙ settles .kept i closed;
+      later = λ i h. getD-set-other p d i (suc m) 0 (omega arith) ∙ settles .later i (omega (arith, lowest));
+    }
 
-  -- the branch's plan has as many marks as the table has choices
-  rows-length : length (rows (b .plan)) ≡ choiceCount (t .variables)
-  rows-length =
-      let few : b .plan .count ≤ length (b .plan .marks) = omega arith in
-      length-take-le (b .plan .count) (b .plan .marks) few ∙ stands .long .1
+-- ---------------------------------------------------------------------------
+-- The numbers of the open lines
 
-  -- ---------------------------------------------------------------------------
-  -- A branch with an open line, of which the next is the lowest
+numbers-length : (lines : List ℕ) (n : ℕ) → length (numbersFrom lines n) ≡ n
+unfolding numbersFrom
+numbers-length lines zero = refl
+numbers-length lines (suc n) = ap suc (numbers-length lines n)
 
-  module _ (more : b .settled ≡ job .lines → ⊥) {d : ℕ} (line : d ≡ getD numbers (b .settled) 0) where
-    -- some line is left to settle, and few are settled
-    pub settled-few : (b .settled < job .lines) × (b .settled < 20)
-    settled-few =
-        let less : b .settled < job .lines = omega (arith, more, stands .few .0) in
-        (less, omega arith)
+numbers-next : (lines : List ℕ) (n : ℕ) → (n ≡ 0 → ⊥) → numbersFrom lines n ≡ getD lines (n + 42) 0 ∷ numbersFrom lines (n - 1)
+unfolding numbersFrom
+numbers-next lines zero more = absurd (more refl)
+numbers-next lines (suc n) more = let e : suc n - 1 ≡ n = omega arith in rw e refl
 
-    -- the plan costs at most a kit for each of 20 lines
-    pub cost-few : b .cost ≤ 20
-    cost-few = omega (arith, cost-le (rows (b .plan)), rows-length, stands .cost)
+numbers-none : (lines : List ℕ) (n : ℕ) → n ≡ 0 → numbersFrom lines n ≡ []
+unfolding numbersFrom
+numbers-none lines zero e = refl
+numbers-none lines (suc n) e = absurd (omega arith)
 
-    -- the open lines after the next
-    abbrev rest : List ℕ
-    rest = drop (b .settled + 1) (take (job .lines) numbers)
+-- ---------------------------------------------------------------------------
+-- Scenes
 
-    -- the branch's open lines are the next and those after it
-    lines-next : openLines (rows (b .plan)) ≡ d ∷ rest
-    lines-next =
-        let within : b .settled < length (take (job .lines) numbers) = rw (length-take-le (job .lines) numbers (stands .few .2)) (settled-few .0) in
-        rw (line, add-one, ← getD-take (job .lines) numbers (b .settled) 0 (settled-few .0), ← stands .lines)
-        (drop-cons (take (job .lines) numbers) (b .settled) 0 within)
+-- The scene with line d marked and another plan held
+abbrev pub marked : Scene → (d m : ℕ) → Option (List ℕ) → Scene
+marked g d m held =
+    record {
+      table = g .table;
+      start = g .start;
+      percent = g .percent;
+      budget = g .budget;
+      failing = g .failing;
+      plan = set (g .plan) d m;
+      held = held;
+    }
 
-    -- the next line is the lowest open one
-    pub line-lowest : lowestOpen (rows (b .plan)) ≡ d
-    line-lowest = lines-lowest _ d rest lines-next
+module _ {g : Scene} {l : Layers} {losses lines : List ℕ} (ground : Ground g l losses lines) where
+  -- what does not change is the same for it
+  pub marked-ground : (d m : ℕ) (held : Option (List ℕ)) → Ground (marked g d m held) l losses lines
+  marked-ground d m held =
+      record {
+        passing = ground .passing;
+        few = ground .few;
+        layered = ground .layered;
+        layer = ground .layer;
+      }
 
-    -- the next line is one of the plan's
-    line-within : d < choiceCount (t .variables)
-    line-within = omega (arith, rows-length, lines-within _ d rest lines-next)
+  module _ {cells marks : List ℕ} {n room bound : ℕ} (stands : Stands g l lines cells marks n room bound) where
+    -- the plan has as many marks as the table has choices
+    pub plan-length : length (g .plan) ≡ choiceCount (g .table .variables)
+    plan-length = stands .settles .size ∙ ground .layered .plan
 
-    -- it is below 20
-    pub line-few : d < 20
-    line-few = omega (arith, line-within)
-
-    -- its position is below 64
-    pub place-few : getD at d 0 < 64
-    place-few = omega (arith, ground .places d line-within .within, stands .marked .2 .few)
-
-    -- marking it in the array marks it in the plan
-    marked-rows : (m : ℕ) → take (b .plan .count) (set (b .plan .marks) d m) ≡ set (rows (b .plan)) d m
-    marked-rows m = take-set-lt (b .plan .count) (b .plan .marks) d m (omega (arith, line-within))
-
-    -- with it marked, one line less is open
-    marked-count : (m : ℕ) → openCount (rows (b .plan)) ≡ suc (openCount (set (rows (b .plan)) d (suc m)))
-    marked-count m =
-        let count = lines-count _ d rest lines-next in
-        count ∙ ap suc (sym (rw line-lowest at (open-count-set (rows (b .plan)) (length rest) m count)))
-
-    -- with it marked, the lines after it are open
-    marked-lines : (m : ℕ) → rest ≡ openLines (set (rows (b .plan)) d (suc m))
-    marked-lines m = sym (lines-marked _ d rest lines-next m)
+    -- with no line unsettled it is full
+    pub plan-full : n ≡ 0 → openCount (g .plan) ≡ 0
+    plan-full e = lines-none _ (stands .listed ∙ numbers-none lines n e)
 
     -- ---------------------------------------------------------------------------
-    -- The line taken
+    -- The lowest open line
 
-    -- the plan has the line taken
-    pub taken-rows : rows (taken b d .plan) ≡ set (rows (b .plan)) d 1
-    unfolding taken
-    taken-rows = marked-rows 1
+    module _ (more : n ≡ 0 → ⊥) where
+      -- its number, and where its layer, its own nodes, and what comes after them begin
+      abbrev d : ℕ
+      d = getD lines (n + 42) 0
 
-    -- one line less is open
-    pub taken-count : openCount (rows (b .plan)) ≡ suc (openCount (rows (taken b d .plan)))
-    taken-count = rw taken-rows (marked-count 0)
+      abbrev from : ℕ
+      from = getD lines n 0
 
-    -- the branch holds what a branch holds
-    pub taken-stands : Stands t ps hs ls ha la numbers job (taken b d)
-    unfolding taken upperBound
-    taken-stands =
-        let o = lines-open _ d rest lines-next in
-        record {
-          marked = (stands .marked .0, stands .marked .1 ∙ sym (rw taken-rows (taken-same (rows (b .plan)) d o)), stands .marked .2);
-          long = (length-set (b .plan .marks) d 1 ∙ stands .long .0, stands .long .1, stands .long .2);
-          lines = rw taken-rows (marked-lines 0);
-          few = (omega (arith, settled-few .0), stands .few .1, stands .few .2);
-          cost = rw (taken-rows, cost-taken (rows (b .plan)) d o, stands .cost);
-          bound = rw (taken-rows, taken-same (rows (b .plan)) d o) (stands .bound);
-        }
+      abbrev own : ℕ
+      own = getD lines (n + 21) 0
 
-    -- ---------------------------------------------------------------------------
-    -- The line left
+      abbrev to : ℕ
+      to = getD lines (n - 1) 0
 
-    -- the plan that the marks by position are of, with the line left
-    abbrev pub leftPlan : List ℕ
-    leftPlan = set (stands .marked .0) d 2
+      -- the plan's open lines are this one and those after it
+      lines-next : openLines (g .plan) ≡ d ∷ numbersFrom lines (n - 1)
+      lines-next = stands .listed ∙ numbers-next lines n more
 
-    -- the arrays hold that plan
-    pub left-marked : Marked t leftPlan (job .records) ps hs ls ha la (set (b .marks) (getD at d 0) 2)
-    left-marked =
-        let m = stands .marked .2 in
-        let within : d < length (stands .marked .0) = omega (arith, line-within, m .plan) in
-        record {
-          formed = m .formed;
-          shares = m .shares;
-          bounded = m .bounded;
-          few = m .few;
-          size = m .size;
-          positions = m .positions;
-          high = m .high;
-          low = m .low;
-          highArcs = m .highArcs;
-          lowArcs = m .lowArcs;
-          marks = rw (marks-set t (stands .marked .0) d (getD at d 0) 2 (ground .places d line-within) within place-few, m .marks);
-          plan = length-set (stands .marked .0) d 2 ∙ m .plan;
-          legal = legal-left (stands .marked .0) d (m .legal);
-        }
+      pub line-lowest : lowestOpen (g .plan) ≡ d
+      line-lowest = lines-lowest _ d _ lines-next
 
-    -- its bound is that of the branch's plan with the line left
-    pub left-bound : upperBound t leftPlan ≡ upperBound t (set (rows (b .plan)) d 2)
-    unfolding upperBound
-    left-bound = rw (openTaken-set (stands .marked .0) d, openTaken-set (rows (b .plan)) d, stands .marked .1)
+      line-open : isOpen (g .plan) d ≡ true
+      line-open = lines-open _ d _ lines-next
 
-    module _ (y : ℕ) where
-      -- the plan has the line left
-      pub left-rows : rows (leftOut b d (getD at d 0) y .plan) ≡ set (rows (b .plan)) d 2
-      unfolding leftOut
-      left-rows = marked-rows 2
+      line-within : d < length (g .plan)
+      line-within = lines-within _ d _ lines-next
 
-      -- one line less is open
-      pub left-count : openCount (rows (b .plan)) ≡ suc (openCount (rows (leftOut b d (getD at d 0) y .plan)))
-      left-count = rw left-rows (marked-count 1)
+      -- it is below 20, and so are the unsettled lines
+      pub line-few : d < 20
+      line-few = omega (arith, line-within, plan-length, ground .few)
 
-      -- with that bound the branch holds what a branch holds
-      pub left-stands : y ≡ upperBound t leftPlan → Stands t ps hs ls ha la numbers job (leftOut b d (getD at d 0) y)
-      unfolding leftOut
-      left-stands e =
-          let o = lines-open _ d rest lines-next in
-          record {
-            marked = (leftPlan, rw (left-rows, openTaken-set (stands .marked .0) d, openTaken-set (rows (b .plan)) d, stands .marked .1), left-marked);
-            long = (length-set (b .plan .marks) d 2 ∙ stands .long .0, stands .long .1, stands .long .2);
-            lines = rw left-rows (marked-lines 1);
-            few = (omega (arith, settled-few .0), stands .few .1, stands .few .2);
-            cost = rw (left-rows, cost-left (rows (b .plan)) d o, stands .cost);
-            bound = rw left-rows (e ∙ left-bound);
-          }
+      pub unsettled-few : (1 ≤ n) × (n ≤ 20)
+      unsettled-few = (omega (arith, more), omega (arith, stands .few, open-le (g .start), ground .layered .plan, ground .few))
+
+      -- its layer
+      pub line-layer : Line (g .table) (g .start) l from own to d
+      line-layer =
+          let some : n - 1 + 1 ≡ n = omega (arith, more) in
+          let begins : n - 1 + 22 ≡ n + 21 = omega (arith, more) in
+          let number : n - 1 + 43 ≡ n + 42 = omega (arith, more) in
+          rw (some, begins, number) at (ground .layer (n - 1) (omega (arith, more, stands .few)))
+
+      -- its layer may be left
+      pub leavable : (own ≤ to) × ((i : ℕ) → i < to → getD (l .order) i 0 < 256)
+      leavable =
+          let bounds = line-layer .bounds in
+          (bounds .1, λ i h. ground .layered .sized .nodes i (omega (arith, bounds .2)) .1)
+
+      -- with it marked, one line less is open
+      pub marked-count : (m : ℕ) → (openCount (g .plan) ≡ suc (openCount (set (g .plan) d (suc m)))) × (openCount (set (g .plan) d (suc m)) ≡ n - 1)
+      marked-count m =
+          let count = lines-count _ d _ lines-next in
+          let less = rw line-lowest at (open-count-set (g .plan) (length (numbersFrom lines (n - 1))) m count) in
+          (count ∙ ap suc (sym less), less ∙ numbers-length lines (n - 1))
+
+      -- marking it in the array marks it in the plan
+      marked-marks : (m : ℕ) → set marks d m ≡ padded (set (g .plan) d m)
+      marked-marks m =
+          rw (stands .marked, length-set (g .plan) d m) (set-append-left (g .plan) (replicate (20 - length (g .plan)) 0) d m line-within)
+
+      -- once it is open again the marks are as before
+      pub marks-back : (m : ℕ) → set (set marks d m) d 0 ≡ marks
+      marks-back m =
+          let unmarked : getD marks d 0 ≡ 0 = rw (stands .marked) (List·getD-append (g .plan) _ 0 d line-within ∙ open-mark (g .plan) d line-open) in
+          set-set marks d m 0 ∙ rw unmarked at (set-getD marks d 0)
+
+      -- with it marked, the plan settles the lowest lines first, and the others are open
+      settles-marked : (m : ℕ) → Settles (g .start) (set (g .plan) d (suc m))
+      settles-marked m = settles-next (stands .settles) line-lowest line-open line-within m
+
+      listed-marked : (m : ℕ) → openLines (set (g .plan) d (suc m)) ≡ numbersFrom lines (n - 1)
+      listed-marked m = lines-marked _ d _ lines-next m
+
+      -- ---------------------------------------------------------------------------
+      -- The line taken
+
+      module _ (long : length cells ≡ 512) where
+        -- its layer may be entered
+        pub enterable : Enterable l losses (length (g .table .records)) from own to cells
+        enterable =
+            flows.enterable (ground .layered) (stands .settles) line-layer line-lowest line-open cells long (stands .rooted) (stands .right)
+
+        -- the cells then, and what leaving it loses
+        abbrev pub entered : List ℕ
+        entered = ownNodes l own (to - own) (passNodes l from (own - from) cells)
+
+        abbrev pub lost : ℕ
+        lost = dropSum l losses own (to - own) (passNodes l from (own - from) cells)
+
+        entered-same : Same l from cells entered
+        entered-same =
+            flows.entered-same (ground .layered) (stands .settles) line-layer line-lowest line-open cells long (stands .rooted) (stands .right)
+
+        pub entered-long : length entered ≡ 512
+        entered-long =
+            flows.entered-long (ground .layered) (stands .settles) line-layer line-lowest line-open cells long (stands .rooted) (stands .right)
+
+        -- it loses no more than the bound, and the bound then is that of the plan with the line left
+        pub lost-bound : (lost ≤ bound) × (bound - lost ≡ upperBound (g .table) (set (g .plan) d 2))
+        lost-bound =
+            let layered = ground .layered in
+            let drop = flows.entered-drop layered (stands .settles) line-layer line-lowest line-open cells long (stands .rooted) (stands .right) in
+            let top = drop-top (g .table) (layered .formed) (layered .shares) (layered .sized .few) (layered .monotone) (g .plan) d line-open in
+            (omega (arith, drop, top, stands .top), omega (arith, drop, top, stands .top))
+
+        -- the plan with the line taken
+        pub taken-stands : (held : Option (List ℕ)) → Stands (marked g d 1 held) l lines entered (set marks d 1) (n - 1) (room - 1) bound
+        unfolding upperBound
+        taken-stands held =
+            let same = taken-same (g .plan) d line-open in
+            record {
+              settles = settles-marked 0;
+              marked = marked-marks 1;
+              listed = listed-marked 0;
+              few = omega (arith, stands .few);
+              kits = omega (arith, stands .kits, cost-taken (g .plan) d line-open);
+              top = rw same (stands .top);
+              right = rw same (flows.entered-right (ground .layered) (stands .settles) line-layer line-lowest line-open cells long (stands .rooted) (stands .right));
+              rooted = entered-same .root ∙ stands .rooted;
+            }
+
+        module _ {cells′ : List ℕ} (same : Same l to entered cells′) where
+          -- cells that are the same up to the end of the layer are the same before it
+          pub same-before : Same l from cells cells′
+          same-before =
+              let bounds = line-layer .bounds in
+              same-trans entered-same (same-fewer (omega (arith, bounds .0, bounds .1)) same)
+
+          -- ---------------------------------------------------------------------------
+          -- The line left
+
+          module _ (long′ : length cells′ ≡ 512) where
+            -- the cells once its layer is left
+            abbrev pub leftCells : List ℕ
+            leftCells = leaveNodes (l .order) own (to - own) cells′
+
+            left-same : Same l own cells′ leftCells
+            left-same =
+                flows.left-same (ground .layered) (stands .settles) line-layer line-lowest line-open cells long (stands .rooted) (stands .right) cells′ long′ same
+
+            pub left-long : length leftCells ≡ 512
+            left-long =
+                flows.left-long (ground .layered) (stands .settles) line-layer line-lowest line-open cells long (stands .rooted) (stands .right) cells′ long′ same
+
+            -- the plan with the line left
+            pub left-stands : (held : Option (List ℕ)) → Stands (marked g d 2 held) l lines leftCells (set marks d 2) (n - 1) room (bound - lost)
+            left-stands held =
+                record {
+                  settles = settles-marked 1;
+                  marked = marked-marks 2;
+                  listed = listed-marked 1;
+                  few = omega (arith, stands .few);
+                  kits = rw (cost-left (g .plan) d line-open) (stands .kits);
+                  top = lost-bound .1;
+                  right = flows.left-right (ground .layered) (stands .settles) line-layer line-lowest line-open cells long (stands .rooted) (stands .right) cells′ long′ same;
+                  rooted = left-same .root ∙ same-before .root ∙ stands .rooted;
+                }
+
+            -- cells that are the same up to the end of the layer are the same before it
+            pub same-before-too : {cells″ : List ℕ} → Same l to leftCells cells″ → Same l from cells cells″
+            same-before-too too =
+                let bounds = line-layer .bounds in
+                same-trans
+                (same-trans same-before (same-fewer (bounds .0) left-same))
+                (same-fewer (omega (arith, bounds .0, bounds .1)) too)

@@ -1,8 +1,8 @@
 -- Laws of the search, and demand 2.
 pub mod Rows
-pub mod Tallying
 pub mod OpenLines
-pub mod Positions
+pub mod Tallying
+pub mod RankedLines
 pub mod Branching
 pub mod VisitSteps
 pub mod Starting

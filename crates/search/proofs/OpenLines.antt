@@ -13,7 +13,7 @@ use Rattle.rule.proofs.Opening.{lowest-open}
 use Rattle.search.specs.State.{openFrom, openLines}
 
 -- the list has one number for each open line
-lines-length : (i : ℕ) (p : List ℕ) → length (openFrom i p) ≡ openCount p
+pub lines-length : (i : ℕ) (p : List ℕ) → length (openFrom i p) ≡ openCount p
 unfolding openFrom openCount
 lines-length i [] = refl
 lines-length i (zero ∷ p) = ap suc (lines-length (suc i) p)

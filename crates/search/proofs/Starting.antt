@@ -1,32 +1,40 @@
--- What a search lays out once is what its first visit starts from, and what the visit rule comes to from there is document 01's search.
--- Assumes of the file that no check finds it at fault (`Passed`), and for the first visit that the arrays hold its table and the plan (`Laid`).
+-- What a search lays out once is what its first visit starts from.
+-- Assumes of the file that no check finds it at fault (`Passed`), and for the first visit that the arrays hold its table, laid out for a search from the
+-- plan (`Arranged`).
 use Prim.Native.Nat.{ℕ, zero, suc, _+_, _-_, _≤_, _<_, _^_, min}
-use native.Mathlib.Nat.{zero-add}
+use native.Mathlib.Nat.{zero-add, add-zero, add-sub-of-le}
 use native.Mathlib.Omega.{arith}
+use native.Mathlib.Decide.{ℕ-discrete, decLt}
 use mathlib.Core.Path.{_≡_, refl, ap, sym, _∙_}
-use mathlib.Core.Bool.{true, false, false≢true}
+use mathlib.Core.Bool.{Bool, true, false, cond, false≢true}
+use mathlib.Core.Logic.{by-cases}
+use mathlib.Core.Option.{Option, none, some}
 use mathlib.Core.List.{List, [], _∷_, _++_}
-use lib.ListN.{length, getD, take, replicate, length-append, length-replicate}
+use lib.ListN.{length, getD, set, take, drop, replicate, length-set, length-append, length-replicate, getD-replicate, drop-of-length-le, List·getD-eq-default}
 use lib.Pow.{pow-mono}
-use lib.Seq.{take-length, take-append-seam, length-take-le}
-use Rattle.diagram.specs.Table.{Variable, choice, chance, Table, sequence, tableOf, root, isChoice, choiceCount}
-use Rattle.diagram.specs.Plans.{cost, openCount, upperBound}
+use lib.Seq.{getD-set-same, getD-set-other, take-length, take-append-seam, getD-drop, getD-take, getD-append-add, length-take-le, drop-cons}
+use Rattle.diagram.specs.Table.{Variable, choice, chance, Table, sequence, tableOf, isChoice, choiceCount}
+use Rattle.diagram.specs.Plans.{openCount, cost}
 use Rattle.diagram.specs.Visits as visits
 use Rattle.diagram.specs.declared.plan.Plan.{Plan}
-use Rattle.diagram.proofs.Places.{sequence-at}
+use Rattle.diagram.proofs.Places.{sequence-at, sequence-length}
 use Rattle.diagram.proofs.Checked.{Passed}
-use Rattle.reading.proofs.Accepted.{passed-choices, passed-formed, passed-monotone}
-use Rattle.rule.specs.Rule as rules
+use Rattle.reading.proofs.Accepted.{passed-variables, passed-choices, passed-formed, passed-monotone}
 use Rattle.rule.proofs.Visiting.{visited-rule}
-use Rattle.scoring.specs.Value.{place, gap, highArc, lowArc}
-use Rattle.scoring.specs.Passes.{over, byNode, Decoded, marksByPosition, Marked}
+use Rattle.scoring.specs.Value.{marksFrom}
+use Rattle.scoring.specs.Passes.{over, markOf, marksByPosition, Marked}
+use Rattle.scoring.proofs.Bounding.{marked}
 use Rattle.scoring.proofs.FullPlans.{Legal}
 use Rattle.scoring.proofs.Over.{over-sequence-at}
-use Rattle.scoring.proofs.Bounding.{marked, records-few}
+use Rattle.scoring.proofs.Passing.{choices-before}
 use Rattle.sweep.specs.Drops.{Chosen, LargestFailing}
-use Rattle.search.specs.declared.job.Job.{Job}
-use Rattle.search.specs.declared.tally.Tally.{Tally}
-use Rattle.search.specs.State.{rows, openLines, choicePosition, Stand, Ground, Stands, heldOf, tallyOf, Fitted, Laid}
+use Rattle.sweep.proofs.Leaving.{choices-later}
+use Rattle.layers.specs.Chains.{pick, joined, placed}
+use Rattle.layers.specs.Layers.{Layers}
+use Rattle.layers.specs.Flows.{Stand, Line}
+use Rattle.search.specs.State.{rows, padded, openFrom, openLines, choicePosition, Ranked, numbersFrom, Holds, Scene, Visitable, ruled, Visited, Arrays, Ending, Arranged, Explored}
+use Rattle.search.proofs.OpenLines.{lines-length}
+use Rattle.layers.proofs.Ordering.{nodesAt, position-below, ends-rising, ends-mono, before-position, at-position, after-position, position-sum}
 
 -- ---------------------------------------------------------------------------
 -- The positions of the choices
@@ -44,10 +52,17 @@ choice-at (chance a b ∷ vs) i l =
     (omega arith, at .1, at .2)
 
 -- every choice has a position
-pub choice-stands : (t : Table) (i : ℕ) → i < choiceCount (t .variables) → Stand t i (choicePosition (t .variables) i)
+choice-stands : (t : Table) (i : ℕ) → i < choiceCount (t .variables) → Stand t i (choicePosition (t .variables) i)
 choice-stands t i l =
     let at = choice-at (t .variables) i l in
     record { within = at .0; chosen = at .1; number = at .2 }
+
+-- the choices stand in order of their numbers
+stand-later : {t : Table} {i j x y : ℕ} → Stand t i x → Stand t j y → i < j → x < y
+stand-later {t} {i} {j} {x} {y} a b l =
+    by-cases (decLt x y) (λ h. h) (λ f. by-cases (ℕ-discrete x y)
+    (λ e. absurd (omega (arith, a .number, b .number, ap (λ (z : ℕ). choiceCount (take z (t .variables))) e)))
+    (λ g. absurd (omega (arith, a .number, b .number, choices-later (t .variables) y x (omega arith) (b .chosen)))))
 
 -- a choice's position is that of its number
 position-own : (vs : List Variable) (x : ℕ) → x < length vs → isChoice (getD vs x (chance 0 1)) ≡ true → choicePosition vs (choiceCount (take x vs)) ≡ x
@@ -58,100 +73,362 @@ position-own (choice ∷ vs) (suc x) h e = ap suc (position-own vs x (omega arit
 position-own (chance a b ∷ vs) zero h e = absurd (false≢true e)
 position-own (chance a b ∷ vs) (suc x) h e = ap suc (position-own vs x (omega arith) e)
 
--- cells that hold their own numbers hold the choices' positions
-pub own-chosen : (t : Table) (cells : List ℕ) → length (t .variables) < 64 → ((x : ℕ) → x < 64 → getD cells x 0 ≡ x) → Chosen t (choicePosition (t .variables)) cells
-own-chosen t cells few own x h e = own x (omega arith) ∙ sym (position-own (t .variables) x h e)
-
--- the numbers from 0 to 63 are such cells
+-- the numbers from 0 to 63 hold the choices' positions
 pub own-numbers : (t : Table) → length (t .variables) < 64 → Chosen t (choicePosition (t .variables)) (sequence (λ x. x) 0 64)
-own-numbers t few = own-chosen t (sequence (λ x. x) 0 64) few (λ x l. sequence-at (λ x. x) 0 64 x 0 l ∙ zero-add x)
+own-numbers t few x h e =
+    sequence-at (λ x. x) 0 64 x 0 (omega arith) ∙ zero-add x ∙ sym (position-own (t .variables) x h e)
 
 -- ---------------------------------------------------------------------------
--- What the search lays out
+-- The open lines
+
+-- number k of the open lines is open, and k lines before it are
+open-at : (i : ℕ) (p : List ℕ) (k : ℕ) → k < openCount p → ((d : ℕ) × (getD (openFrom i p) k 0 ≡ i + d) × (d < length p) × (openCount (take d p) ≡ k) × (getD p d 0 ≡ 0))
+unfolding openFrom openCount
+open-at i [] k l = absurd (omega arith)
+open-at i (zero ∷ p) zero l = (0, omega arith, omega arith, refl, refl)
+open-at i (zero ∷ p) (suc k) l =
+    let at = open-at (suc i) p k (omega arith) in
+    (suc (at .0), omega (arith, at .1), omega (arith, at .2), ap suc (at .3), at .4)
+open-at i (suc m ∷ p) k l =
+    let at = open-at (suc i) p k l in
+    (suc (at .0), omega (arith, at .1), omega (arith, at .2), at .3, at .4)
+
+-- the lines open before an open line are fewer than those before any later line
+open-later : (p : List ℕ) (e d : ℕ) → e < d → e < length p → getD p e 0 ≡ 0 → openCount (take e p) < openCount (take d p)
+unfolding openCount
+open-later p e zero h l o = absurd (omega arith)
+open-later [] e (suc d) h l o = absurd (omega arith)
+open-later (zero ∷ p) zero (suc d) h l o = omega arith
+open-later (suc m ∷ p) zero (suc d) h l o = absurd (omega (arith, o))
+open-later (zero ∷ p) (suc e) (suc d) h l o = omega (arith, open-later p e d (omega arith) (omega arith) o)
+open-later (suc m ∷ p) (suc e) (suc d) h l o = open-later p e d (omega arith) (omega arith) o
+
+-- A line that is open in plan s, with its number among the open lines and its position
+record Opened (t : Table) (s : List ℕ) (k d x : ℕ) : Type 0 where
+  stand : Stand t d x
+  count : openCount (take d s) ≡ k
+  within : d < length s
+  mark : getD s d 0 ≡ 0
+
+module _ (t : Table) (s : List ℕ) (long : length s ≡ choiceCount (t .variables)) where
+  -- number k of the open lines
+  opened : (k : ℕ) → k < openCount s → Opened t s k (getD (openLines s) k 0) (choicePosition (t .variables) (getD (openLines s) k 0))
+  unfolding openLines
+  opened k l =
+      let at = open-at 0 s k l in
+      let number : getD (openFrom 0 s) k 0 ≡ at .0 = omega (arith, at .1) in
+      rw number (record {
+        stand = choice-stands t (at .0) (omega (arith, at .2, long));
+        count = at .3;
+        within = at .2;
+        mark = at .4;
+      })
+
+  -- they stand in order
+  opened-later : {j k d e x y : ℕ} → Opened t s j d x → Opened t s k e y → j < k → x < y
+  opened-later {j} {k} {d} {e} a b l =
+      stand-later (a .stand) (b .stand)
+      (by-cases (decLt d e) (λ h. h) (λ f. by-cases (ℕ-discrete d e)
+      (λ q. absurd (omega (arith, a .count, b .count, ap (λ (z : ℕ). openCount (take z s)) q)))
+      (λ g. absurd (omega (arith, a .count, b .count, open-later s e d (omega arith) (b .within) (b .mark))))))
+
+  -- a mark 0 is an open line's
+  mark-opened : (y : ℕ) → y < length (t .variables) → markOf t s y ≡ 0 → Opened t s (openCount (take (choiceCount (take y (t .variables))) s)) (choiceCount (take y (t .variables))) y
+  unfolding markOf marksFrom
+  mark-opened y h e = go (isChoice (getD (t .variables) y (chance 0 1))) refl (rw (getD-drop, add-zero) at e)
+    where
+      go : (b : Bool) → isChoice (getD (t .variables) y (chance 0 1)) ≡ b → cond b (getD s (choiceCount (take y (t .variables))) 0) 3 ≡ 0 → Opened t s (openCount (take (choiceCount (take y (t .variables))) s)) (choiceCount (take y (t .variables))) y
+      go true c e =
+          record {
+            stand = record { within = h; chosen = c; number = refl };
+            count = refl;
+            within = omega (arith, long, choices-before (t .variables) y h c);
+            mark = e;
+          }
+      go false c e = absurd (omega (arith, e))
+
+  -- between two neighbours of the list, and before its first line, no line is open
+  before-first : {d x y : ℕ} → Opened t s 0 d x → y < length (t .variables) → y < x → markOf t s y ≡ 0 → ⊥
+  before-first {d} {x} {y} a h l e =
+      let o = mark-opened y h e in
+      omega (arith, a .count, open-later s (choiceCount (take y (t .variables))) d (omega (arith, choices-later (t .variables) y x l (o .stand .chosen), a .stand .number)) (o .within) (o .mark))
+
+  between : {k d e x z y : ℕ} → Opened t s k d x → Opened t s (suc k) e z → y < length (t .variables) → x < y → y < z → markOf t s y ≡ 0 → ⊥
+  between {k} {d} {e} {x} {z} {y} a b h l g q =
+      let o = mark-opened y h q in
+      let i = choiceCount (take y (t .variables)) in
+      let after = open-later s d i (omega (arith, a .stand .number, choices-later (t .variables) x y l (a .stand .chosen))) (a .within) (a .mark) in
+      let before = open-later s i e (omega (arith, b .stand .number, choices-later (t .variables) y z g (o .stand .chosen))) (o .within) (o .mark) in
+      omega (arith, a .count, b .count, after, before)
+
+  -- ---------------------------------------------------------------------------
+  -- The layers of the open lines
+
+  module _ {l : Layers} {ends : List ℕ} (ending : Ending t l ends) where
+    -- the layer of the first open line
+    first-line : {d x : ℕ} → Opened t s 0 d x → Line t s l 0 (getD ends x 0) (getD ends (x + 1) 0) d
+    first-line {d} {x} a =
+        let within = a .stand .within in
+        record {
+          position = x;
+          stand = a .stand;
+          bounds = (omega arith, ending .rising x (x + 1) (omega arith) (omega arith), ending .within (x + 1) (omega arith));
+          before = λ j h. ending .before x j (omega arith) h;
+          here = λ j h g. ending .here x j within h g;
+          plain = λ j h g e.
+              let less = ending .before x j (omega arith) g in
+              before-first a (omega (arith, less)) less e;
+          covers = λ f. ending .sums x within f;
+        }
+
+    -- the layer of an open line after another
+    next-line : {k c d w x : ℕ} → Opened t s k c w → Opened t s (suc k) d x → Line t s l (getD ends (w + 1) 0) (getD ends x 0) (getD ends (x + 1) 0) d
+    next-line {k} {c} {d} {w} {x} b a =
+        let within = a .stand .within in
+        let later = opened-later b a (omega arith) in
+        record {
+          position = x;
+          stand = a .stand;
+          bounds = (ending .rising (w + 1) x (omega (arith, later)) (omega arith), ending .rising x (x + 1) (omega arith) (omega arith), ending .within (x + 1) (omega arith));
+          before = λ j h. ending .before x j (omega arith) h;
+          here = λ j h g. ending .here x j within h g;
+          plain = λ j h g e.
+              let less = ending .before x j (omega arith) g in
+              let more = ending .after (w + 1) j (omega (arith, later)) h (omega (arith, ending .within x (omega arith))) in
+              between b a (omega (arith, less)) (omega (arith, more)) less e;
+          covers = λ f. ending .sums x within f;
+        }
+
+  -- ---------------------------------------------------------------------------
+  -- The layers as `line_ranks` writes them
+
+  module _ (count : ℕ) (numbers places : List ℕ) (listed : take count numbers ≡ openLines s) (size : count ≤ length numbers) (chosen : places ≡ over (sequence (choicePosition (t .variables)) 0 (choiceCount (t .variables))) (replicate 20 0)) where
+    -- all open lines are listed
+    pub open-counted : count ≡ openCount s
+    unfolding openLines
+    open-counted = sym (length-take-le count numbers size) ∙ ap length listed ∙ lines-length 0 s
+
+    number-at : (i : ℕ) → i < count → getD numbers i 0 ≡ getD (openLines s) i 0
+    number-at i h = sym (getD-take count numbers i 0 h) ∙ ap (λ (x : List ℕ). getD x i 0) listed
+
+    opened-at : (i : ℕ) → i < count → Opened t s i (getD (openLines s) i 0) (choicePosition (t .variables) (getD (openLines s) i 0))
+    opened-at i h = opened i (omega (arith, open-counted))
+
+    place-at : (i : ℕ) → i < count → getD places (getD numbers i 0) 0 ≡ choicePosition (t .variables) (getD (openLines s) i 0)
+    place-at i h =
+        let few = opened-at i h .within in
+        rw (number-at i h, chosen) (over-sequence-at (choicePosition (t .variables)) (replicate 20 0) (choiceCount (t .variables)) (getD (openLines s) i 0) (omega (arith, few, long)))
+
+    -- what `line_ranks` asks for
+    pub numbers-few : choiceCount (t .variables) ≤ 20 → length (t .variables) < 64 → (i : ℕ) → i < count → (getD numbers i 0 < 20) × (getD places (getD numbers i 0) 0 < 64)
+    numbers-few few short i h =
+        let at = opened-at i h in
+        (rw (number-at i h) (omega (arith, at .within, long)), rw (place-at i h) (omega (arith, at .stand .within)))
+
+    module _ {l : Layers} {ends lines : List ℕ} (ending : Ending t l ends) (ranked : Ranked count numbers places ends lines) where
+      own-at : (i n : ℕ) → i + (n + 1) ≡ count → getD lines (n + 22) 0 ≡ getD ends (choicePosition (t .variables) (getD (openLines s) i 0)) 0
+      own-at i n e =
+          let at : count - i + 21 ≡ n + 22 = omega arith in
+          rw (at, place-at i (omega arith)) at (ranked .own i (omega arith))
+
+      to-at : (i n : ℕ) → i + (n + 1) ≡ count → getD lines n 0 ≡ getD ends (choicePosition (t .variables) (getD (openLines s) i 0) + 1) 0
+      to-at i n e =
+          let at : count - i - 1 ≡ n = omega arith in
+          rw (at, place-at i (omega arith)) at (ranked .to i (omega arith))
+
+      line-at : (i n : ℕ) → i + (n + 1) ≡ count → getD lines (n + 43) 0 ≡ getD (openLines s) i 0
+      line-at i n e =
+          let at : count - i + 42 ≡ n + 43 = omega arith in
+          rw (at, number-at i (omega arith)) at (ranked .number i (omega arith))
+
+      -- the layer of each open line
+      pub layers-ranked : (n : ℕ) → n < openCount s → Line t s l (getD lines (n + 1) 0) (getD lines (n + 22) 0) (getD lines n 0) (getD lines (n + 43) 0)
+      layers-ranked n h = go (count - (n + 1)) (omega (arith, open-counted))
+        where
+          go : (i : ℕ) → i + (n + 1) ≡ count → Line t s l (getD lines (n + 1) 0) (getD lines (n + 22) 0) (getD lines n 0) (getD lines (n + 43) 0)
+          go zero e =
+              let all : count ≡ n + 1 = omega arith in
+              let from : getD lines (n + 1) 0 ≡ 0 = rw all at (ranked .first) in
+              rw (from, own-at 0 n e, to-at 0 n e, line-at 0 n e) (first-line ending (opened-at 0 (omega arith)))
+          go (suc i) e =
+              rw (to-at i (n + 1) (omega arith), own-at (suc i) n e, to-at (suc i) n e, line-at (suc i) n e) (next-line ending (opened-at i (omega arith)) (opened-at (suc i) (omega arith)))
+
+      -- the numbers of the open lines
+      numbers-ranked : (n i : ℕ) → i + n ≡ count → numbersFrom lines n ≡ drop i (openLines s)
+      unfolding numbersFrom openLines
+      numbers-ranked zero i e =
+          sym (drop-of-length-le (openLines s) {i = i} (omega (arith, open-counted, lines-length 0 s)))
+      numbers-ranked (suc n) i e =
+          let at : suc n + 42 ≡ n + 43 = omega arith in
+          rw (at, line-at i n (omega arith), numbers-ranked n (suc i) (omega arith)) (sym (drop-cons (openLines s) i 0 (omega (arith, open-counted, lines-length 0 s))))
+
+      pub open-ranked : openLines s ≡ numbersFrom lines count
+      open-ranked = sym (numbers-ranked count 0 (omega arith))
+
+-- ---------------------------------------------------------------------------
+-- The first visit
 
 -- the plan that a list of at most 20 marks hands in
-handed-in : (p : List ℕ) (start : Plan) → length p ≤ 20 → start .marks ≡ take (min (length p) 20) p ++ replicate (20 - min (length p) 20) 0 → start .count ≡ min (length p) 20 → (rows start ≡ p) × (length (start .marks) ≡ 20) × (start .count ≤ 20)
+pub handed-in : (p : List ℕ) (start : Plan) → length p ≤ 20 → start .marks ≡ take (min (length p) 20) p ++ replicate (20 - min (length p) 20) 0 → start .count ≡ min (length p) 20 → (rows start ≡ p) × (start .marks ≡ padded p) × (length (start .marks) ≡ 20)
 handed-in p start few marks count =
     let all : min (length p) 20 ≡ length p = omega arith in
     let own : take (length p) p ≡ p = take-length p in (
       rw (marks, count, all, own) (take-append-seam p (replicate (20 - length p) 0)),
+      rw (marks, all, own) refl,
       rw (marks, all, own, length-append, length-replicate) (omega arith),
-      omega arith,
     )
 
-module _ {s p : List ℕ} {percent n : ℕ} {ps hs ls ha la numbers : List ℕ} {start : Plan} (passed : Passed s) (size : n ≡ length (tableOf s .records)) (long : length p ≡ choiceCount (tableOf s .variables)) (legal : Legal p) where
-  -- the arrays, the plan and its open lines are what a search starts from
-  pub laid-out : (W W′ : List ℕ) {weight lines budget failing : ℕ} → Decoded s ps hs ls → ha ≡ over (byNode (highArc (tableOf s)) n) W → la ≡ over (byNode (lowArc (tableOf s)) n) W′ → weight ≡ gap (tableOf s) 0 (place (tableOf s) (root (tableOf s))) → start .marks ≡ take (min (length p) 20) p ++ replicate (20 - min (length p) 20) 0 → start .count ≡ min (length p) 20 → (lines ≤ 20) × (take lines numbers ≡ openLines (rows start)) → length numbers ≡ 20 → LargestFailing (tableOf s) percent failing → Laid s p percent ps hs ls ha la numbers (record { records = n; weight = weight; lines = lines; budget = budget; failing = failing }) start
-  laid-out W W′ decoded eha ela weighs marks count lines twenty passing =
-      let plan = handed-in p start (omega (arith, passed-choices passed)) marks count in
+-- What is visited first
+abbrev pub firstScene : (s p : List ℕ) → (percent budget failing : ℕ) → Scene
+firstScene s p percent budget failing =
+    record {
+      table = tableOf s;
+      start = p;
+      percent = percent;
+      budget = budget;
+      failing = failing;
+      plan = p;
+      held = none;
+    }
+
+-- the numbers that stand for nothing held and no visits
+pub nothing-held : (t : Table) (budget failing : ℕ) (best W : List ℕ) {x y z : ℕ} {tally : List ℕ} → length W ≡ 3 → x ≡ failing + 1 → y ≡ 0 → z ≡ 0 → tally ≡ set (set (set W 0 x) 1 y) 2 z → Holds t budget failing none best tally × (length tally ≡ 3) × (getD tally 2 0 ≡ 0)
+nothing-held t budget failing best W {x} {y} {z} three ex ey ez e =
+    let one : length (set W 0 x) ≡ 3 = simp length-set three in
+    let two : length (set (set W 0 x) 1 y) ≡ 3 = simp length-set three in
+    let at0 : getD (set (set (set W 0 x) 1 y) 2 z) 0 0 ≡ x = getD-set-other (set (set W 0 x) 1 y) 2 0 z 0 (omega arith) ∙ getD-set-other (set W 0 x) 1 0 y 0 (omega arith) ∙ getD-set-same W 0 x 0 (omega arith) in
+    let at1 : getD (set (set (set W 0 x) 1 y) 2 z) 1 0 ≡ y = getD-set-other (set (set W 0 x) 1 y) 2 1 z 0 (omega arith) ∙ getD-set-same (set W 0 x) 1 y 0 (omega (arith, one)) in
+    let at2 : getD (set (set (set W 0 x) 1 y) 2 z) 2 0 ≡ z = getD-set-same (set (set W 0 x) 1 y) 2 z 0 (omega (arith, two)) in
+    rw e (
+      record { nothing = λ q. (at0 ∙ ex, at1 ∙ ey); something = λ q h. absurd (none-not-some h) },
+      simp length-set three,
+      at2 ∙ ez,
+    )
+  where
+    none-not-some : {q : List ℕ} → _≡_ {A = Option (List ℕ)} none (some q) → ⊥
+    none-not-some h =
+        let z : _≡_ {A = ℕ} 0 1 = cc in
+        omega arith
+
+-- What is made of the plan handed in: its marks, the numbers of its open lines, and the choices' positions
+pub record Ready (s p : List ℕ) (start : Plan) (count : ℕ) (numbers places : List ℕ) : Type 0 where
+  pub handed : (rows start ≡ p) × (start .marks ≡ padded p) × (length (start .marks) ≡ 20)
+  pub listed : (count ≤ 20) × (take count numbers ≡ openLines (rows start))
+  pub twenty : length numbers ≡ 20
+  pub chosen : places ≡ over (sequence (choicePosition (tableOf s .variables)) 0 (choiceCount (tableOf s .variables))) (replicate 20 0)
+
+module _ {s p : List ℕ} (passed : Passed s) (long : length p ≡ choiceCount (tableOf s .variables)) {start : Plan} {count : ℕ} {numbers places : List ℕ} (ready : Ready s p start count numbers places) where
+  lists : take count numbers ≡ openLines p
+  lists = rw (ready .handed .0) at (ready .listed .1)
+
+  room : count ≤ length numbers
+  room = omega (arith, ready .listed .0, ready .twenty)
+
+  -- what `line_ranks` asks for
+  pub first-few : (i : ℕ) → i < count → (getD numbers i 0 < 20) × (getD places (getD numbers i 0) 0 < 64)
+  first-few =
+      numbers-few (tableOf s) p long count numbers places lists room (ready .chosen) (passed-choices passed) (omega (arith, passed-variables passed))
+
+  -- all that the first visit is handed
+  pub first-visitable : {percent budget failing weight bound kits : ℕ} {ends losses lines cells marks best tally : List ℕ} {l : Layers} → Arranged (tableOf s) p weight bound ends l losses → Ranked count numbers places ends lines → getD cells 1 0 ≡ weight → marks ≡ start .marks → kits ≡ budget + 1 - cost (rows start) → LargestFailing (tableOf s) percent failing → Holds (tableOf s) budget failing none best tally → Visitable (firstScene s p percent budget failing) l losses lines cells marks best tally count kits bound
+  first-visitable arranged ranked heavy same left passing holds =
+      let from = ranked .first in
       record {
-        some = records-few passed n size .0;
-        weight = weighs;
-        failing = passing;
-        marked = marked passed n size p W W′ long legal decoded eha ela refl;
-        lines = lines .1 ∙ ap openLines (plan .0);
-        few = (lines .0, omega arith);
-        plan = plan;
+        ground = record {
+          passing = passing;
+          few = passed-choices passed;
+          layered = arranged .layered;
+          layer = layers-ranked (tableOf s) p long count numbers places lists room (ready .chosen) (arranged .ending) ranked;
+        };
+        stands = record {
+          settles = record { size = refl; kept = λ i f. refl; later = λ i h. refl };
+          marked = same ∙ ready .handed .1;
+          listed = open-ranked (tableOf s) p long count numbers places lists room (ready .chosen) (arranged .ending) ranked;
+          few = omega (arith, open-counted (tableOf s) p long count numbers places lists room (ready .chosen));
+          kits = rw (ready .handed .0) at left;
+          top = arranged .top;
+          right = rw from (record { high = λ j k h e. absurd (omega arith); low = λ j k h e. absurd (omega arith) });
+          rooted = heavy ∙ arranged .weighs;
+        };
+        holds = holds;
       }
+
+  -- the visits fit
+  pub first-room : {n : ℕ} → n ≡ 0 → n + 2 ^ suc count ≤ 2 ^ 63
+  first-room e = omega (arith, e, pow-mono {i = suc count} {j = 21} (omega (arith, ready .listed .0)))
+
+-- what the first visit leaves is what document 01's search does
+pub first-explored : {s p : List ℕ} → Passed s → {percent budget failing from counted : ℕ} {cells marks cells′ marks′ best tally : List ℕ} {l : Layers} → counted ≡ 0 → Visited (firstScene s p percent budget failing) l from counted cells marks cells′ marks′ best tally → Explored (tableOf s) percent budget failing p best tally
+first-explored {s} {p} passed {percent} {budget} {failing} {from} {counted} e v =
+    let done : ruled (firstScene s p percent budget failing) counted ≡ visits.visited (tableOf s) budget percent p = rw e (sym (visited-rule (tableOf s) (passed-formed passed) (passed-monotone passed) budget percent p)) in
+    record { holds = rw done at (v .holds); counts = v .counts ∙ ap (λ (w : visits.Tally). w .visits) done }
 
 -- ---------------------------------------------------------------------------
--- What the first visit is handed, and what it answers
+-- What the search lays out
 
--- at most all lines are open
-open-few : (p : List ℕ) → openCount p ≤ length p
-unfolding openCount
-open-few [] = omega arith
-open-few (zero ∷ p) = omega (arith, open-few p)
-open-few (suc m ∷ p) = omega (arith, open-few p)
+-- past its end, a list written over zeros leaves zeros
+zeros-at : (n i : ℕ) → _≡_ {A = ℕ} (getD (replicate n 0) i 0) 0
+zeros-at n i =
+    by-cases (decLt i n)
+    (λ l. getD-replicate {A = ℕ} n i 0 0 l)
+    (λ f. List·getD-eq-default {A = ℕ} (replicate n 0) 0 {n = i} (rw length-replicate (omega (arith, f))))
 
-module _ {s p : List ℕ} {percent : ℕ} {ps hs ls ha la numbers : List ℕ} {job : Job} {start : Plan} (passed : Passed s) (laid : Laid s p percent ps hs ls ha la numbers job start) where
-  -- the choices' positions are the table's
-  pub first-ground : {at : List ℕ} → at ≡ over (sequence (choicePosition (tableOf s .variables)) 0 (choiceCount (tableOf s .variables))) (replicate 20 0) → Ground (tableOf s) percent at job
-  first-ground e =
-      record {
-        some = laid .some;
-        weight = laid .weight;
-        failing = laid .failing;
-        places = λ i l. rw (e, over-sequence-at (choicePosition (tableOf s .variables)) (replicate 20 0) (choiceCount (tableOf s .variables)) i l) (choice-stands (tableOf s) i l);
-      }
+over-zeros : (new : List ℕ) (n i : ℕ) → length new ≤ i → getD (over new (replicate n 0)) i 0 ≡ 0
+unfolding over
+over-zeros new n i h =
+    let e : length new + (i - length new) ≡ i = add-sub-of-le h in
+    rw (← e, getD-append-add, getD-drop) (zeros-at n (length new + (i - length new)))
 
-  -- the plan has a mark for each choice
-  start-long : (length (start .marks) ≡ 20) × (start .count ≡ choiceCount (tableOf s .variables)) × (start .count ≤ 20)
-  start-long =
-      let size = length-take-le (start .count) (start .marks) (omega (arith, laid .plan)) in
-      (laid .plan .1, omega (arith, size, ap length (laid .plan .0), laid .marked .plan), laid .plan .2)
+-- the arrays hold the table and the plan
+pub arrays-marked : {s p : List ℕ} → Passed s → {n weight : ℕ} {ps hs ls ha la ms : List ℕ} → Arrays s n weight ps hs ls ha la → (length p ≡ choiceCount (tableOf s .variables)) × Legal p → ms ≡ marksByPosition (tableOf s) p → Marked (tableOf s) p n ps hs ls ha la ms
+arrays-marked {s} {p} passed {n} arrays plan marks =
+    marked passed n (arrays .size) p (replicate 256 0) (replicate 256 0) (plan .0) (plan .1) (arrays .decoded) (arrays .high-arcs) (arrays .low-arcs) marks
 
-  -- the marks by position are the plan's
-  pub first-marked : {marks : List ℕ} → marks ≡ marksByPosition (tableOf s) p → Marked (tableOf s) p (job .records) ps hs ls ha la marks
-  first-marked e = rw e (laid .marked)
+module _ {t : Table} {p : List ℕ} {n : ℕ} {ps hs ls ha la ms : List ℕ} (m : Marked t p n ps hs ls ha la ms) {v : ℕ} (variables : v ≡ length (t .variables)) where
+  few : length (t .records) ≤ 254
+  few = omega (arith, m .size)
 
-  -- the branch of the plan handed in
-  pub first-stands : {marks : List ℕ} {x y : ℕ} → marks ≡ marksByPosition (tableOf s) p → x ≡ cost (rows start) → y ≡ upperBound (tableOf s) p → Stands (tableOf s) ps hs ls ha la numbers job (record { plan = start; marks = marks; cost = x; bound = y; settled = 0 })
-  first-stands e charged bounds =
-      let own = laid .plan .0 in
-      record {
-        marked = (p, rw own refl, first-marked e);
-        long = start-long;
-        lines = rw own (laid .lines);
-        few = (omega arith, laid .few .0, laid .few .1);
-        cost = charged;
-        bound = rw own bounds;
-      }
+  -- what `order_records` asks for
+  pub records-placed : (k : ℕ) → k < n → getD ps (k + 2) 0 < v
+  records-placed k h =
+      rw variables (position-below t (m .formed) few (m .few) (m .positions) refl refl k (omega (arith, m .size)))
 
-  module _ {w : Tally} (e : w ≡ record { held = false; best = start; score = 0; cost = 0; visits = 0 }) where
-    -- nothing is held
-    pub first-fitted : Fitted (tableOf s) w
-    first-fitted =
-        rw e (record { score = λ q. absurd (false≢true q); cost = λ q. absurd (false≢true q); long = start-long })
+  module _ {order : List ℕ} (ordered : order ≡ placed (replicate 512 0) 0 (joined (λ x. pick ps 0 x n) v)) where
+    -- the nodes in order, as the laws of the layout have them
+    pub order-is : order ≡ placed (replicate 512 0) 0 (joined (nodesAt ps n) (length (t .variables)))
+    order-is = rw variables at ordered
 
-    -- the visits fit
-    pub first-room : w .visits + 2 ^ suc (openCount (rows start)) ≤ 2 ^ 63
-    first-room =
-        let few : suc (openCount p) ≤ 62 = omega (arith, open-few p, laid .marked .plan, passed-choices passed) in
-        rw (e, laid .plan .0) (omega (arith, pow-mono {i = suc (openCount p)} {j = 62} few))
+    order-same : order ≡ placed (replicate 512 0) 0 (joined (nodesAt ps (length (t .records))) (length (t .variables)))
+    order-same = rw (m .size .0, variables) at ordered
 
-    -- what the rule comes to from there is document 01's search
-    pub first-visited : (budget : ℕ) {x : visits.Tally} → x ≡ rules.rule (openCount (rows start)) (rules.terms (tableOf s) budget percent) (rows start) (tallyOf w) → x ≡ visits.visited (tableOf s) budget percent p
-    unfolding tallyOf heldOf
-    first-visited budget f =
-        f ∙ rw (e, laid .plan .0) (sym (visited-rule (tableOf s) (passed-formed passed) (passed-monotone passed) budget percent p))
+    -- how many nodes stand before each position
+    module _ (some : 1 ≤ length (t .variables)) {ends : List ℕ} (ended : ends ≡ over (sequence (λ x. length (joined (λ y. pick ps 0 y n) x)) 0 (v + 1)) (replicate 256 0)) where
+      ends-same : ends ≡ over (sequence (λ x. length (joined (nodesAt ps (length (t .records))) x)) 0 (length (t .variables) + 1)) (replicate 256 0)
+      ends-same = rw (m .size .0, variables) at ended
+
+      ends-within : (x : ℕ) → x ≤ length (t .variables) → getD ends x 0 ≤ length (t .records)
+      ends-within x h =
+          let y = length (t .variables) in
+          let last : y - 1 + 1 ≡ y = omega arith in
+          let top = rw last at (ends-rising t (m .formed) few (m .few) (m .positions) order-same ends-same (y - 1) (omega arith) .1) in
+          omega (arith, top, ends-mono t (m .formed) few (m .few) (m .positions) order-same ends-same x y h (omega arith))
+
+      ends-few : (x : ℕ) → getD ends x 0 < 256
+      ends-few x =
+          by-cases (decLt x (length (t .variables) + 1))
+          (λ l. omega (arith, few, ends-within x (omega arith)))
+          (λ f.
+          let counts : ℕ → ℕ = λ x. length (joined (nodesAt ps (length (t .records))) x) in
+          rw (ends-same, over-zeros (sequence counts 0 (length (t .variables) + 1)) 256 x (rw sequence-length (omega (arith, f)))) (omega arith))
+
+      pub ending : {starts sources arcs : List ℕ} → Ending t (record { order = order; starts = starts; sources = sources; arcs = arcs }) ends
+      ending =
+          record {
+            few = ends-few;
+            rising = ends-mono t (m .formed) few (m .few) (m .positions) order-same ends-same;
+            within = ends-within;
+            before = before-position t (m .formed) few (m .few) (m .positions) order-same ends-same;
+            here = at-position t (m .formed) few (m .few) (m .positions) order-same ends-same;
+            after = after-position t (m .formed) few (m .few) (m .positions) order-same ends-same;
+            sums = position-sum t (m .formed) few (m .few) (m .positions) order-same ends-same;
+          }

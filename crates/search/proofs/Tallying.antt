@@ -1,60 +1,97 @@
--- A tally in the terms of the visit rule: its tests, the ranking of two plans, and the plan that it holds after a finished plan.
--- Assumes that the score and the cost held are the held plan's (`Fitted`), and in the tests that `failing` is the largest score that fails.
-use Prim.Native.Nat.{ℕ, _+_, _≤_, _<_}
+-- What is held in the terms of the visit rule: its tests, the ranking of two plans, and the plan that is held after a finished plan.
+-- Assumes that the numbers held are those of the best plan held (`Holds`), and that `failing` is the largest score that fails.
+use Prim.Native.Nat.{ℕ, _+_, _-_, _≤_, _<_}
+use native.Mathlib.Nat.{eq-or-lt-of-le}
+use native.Mathlib.Numerals.{add-one}
 use native.Mathlib.Omega.{arith}
-use mathlib.Core.Path.{_≡_, refl, sym, _∙_}
+use mathlib.Core.Path.{_≡_, refl, ap, sym, _∙_}
+use mathlib.Core.Logic.{⊎-elim}
 use mathlib.Core.Bool.{Bool, true, false, cond, not, _&&_, _||_, or-false}
-use mathlib.Core.List.{List, _∷_}
-use mathlib.Core.Option.{none, some}
-use lib.ListN.{length, getD, take, drop, drop-of-length-le}
+use mathlib.Core.List.{List, [], _∷_, _++_}
+use mathlib.Core.Option.{Option, none, some, Option·some-injective, Option·some-ne-none}
+use lib.ListN.{length, getD, set, drop, drop-of-length-le, length-set}
 use lib.Dec.{eqb, ltb}
-use lib.Seq.{length-take-le}
-use borrow.Author.Tests.{lt-ltb, le-ltb, eq-eqb, ne-eqb}
+use lib.Seq.{drop-cons, getD-set-same, getD-set-other}
+use borrow.Author.Tests.{lt-ltb, le-ltb, eq-eqb, ne-eqb, ltb-true, ltb-false, eqb-true, eqb-false, not-true, not-false}
 use Rattle.diagram.specs.Table.{Table, choiceCount}
 use Rattle.diagram.specs.Score.{score}
-use Rattle.diagram.specs.Plans.{cost, upperBound}
+use Rattle.diagram.specs.Plans.{openCount, cost, upperBound}
 use Rattle.diagram.specs.Ranking.{takesFirst, ranksBefore, better}
-use Rattle.diagram.specs.declared.plan.Plan.{Plan}
-use Rattle.rule.specs.Rule.{terms, beaten, goesBack, worthwhile}
+use Rattle.diagram.proofs.Every.{neither, both-ways}
 use Rattle.sweep.specs.Drops.{LargestFailing}
-use Rattle.search.specs.declared.branch.Branch.{Branch}
-use Rattle.search.specs.declared.tally.Tally.{Tally}
-use Rattle.search.specs.State.{rows, heldOf, Fitted, ranksOver, kept}
-use Rattle.search.proofs.Rows.{row-cons}
+use Rattle.rule.specs.Rule.{terms, beaten, goesBack, worthwhile}
+use Rattle.rule.proofs.Instance.{full-taken}
+use Rattle.search.specs.State.{padded, Holding, Holds, ranksOver}
 
 -- ---------------------------------------------------------------------------
--- The tests, over plain numbers
+-- Tests over plain numbers
 
--- where a plan is held, the test of it decides
-pub held-test : (held : Bool) {r x : Bool} → held ≡ true → r ≡ x → r ≡ (held && x)
-held-test held h e = rw h e
+-- there is no room where the cost is more than the budget
+no-room : (budget c : ℕ) → eqb (budget + 1 - c) 0 ≡ ltb budget c
+no-room budget c =
+    both-ways _ _
+    (λ e. lt-ltb budget c (omega (arith, eqb-true (budget + 1 - c) 0 e)))
+    (λ e. eq-eqb (budget + 1 - c) 0 (omega (arith, ltb-true budget c e)))
 
--- where none is held, that test fails
-pub unheld-test : (held : Bool) (x : Bool) {r : Bool} → held ≡ false → r ≡ false → r ≡ (held && x)
-unheld-test held x h e = rw h e
+-- there is more room where the cost is lower
+more-room : (budget c d : ℕ) → c ≤ budget → d ≤ budget → ltb (budget + 1 - d) (budget + 1 - c) ≡ ltb c d
+more-room budget c d h k =
+    both-ways _ _
+    (λ e. lt-ltb c d (omega (arith, ltb-true (budget + 1 - d) (budget + 1 - c) e)))
+    (λ e. lt-ltb (budget + 1 - d) (budget + 1 - c) (omega (arith, ltb-true c d e)))
 
-module _ (budget cost : ℕ) where
-  -- a plan that costs more than the budget is turned back
-  pub back-dear : (fails beaten : Bool) → budget < cost → true ≡ (ltb budget cost || fails || beaten)
-  back-dear fails beaten h = rw (lt-ltb budget cost h) refl
+-- there is as much where it is the same
+same-room : (budget c d : ℕ) → c ≤ budget → d ≤ budget → eqb (budget + 1 - c) (budget + 1 - d) ≡ eqb c d
+same-room budget c d h k =
+    both-ways _ _
+    (λ e. eq-eqb c d (omega (arith, eqb-true (budget + 1 - c) (budget + 1 - d) e)))
+    (λ e. eq-eqb (budget + 1 - c) (budget + 1 - d) (omega (arith, eqb-true c d e)))
 
-  module _ (bound failing : ℕ) (h : cost ≤ budget) where
-    -- within the budget, one whose bound does not pass is
-    pub back-failing : (beaten : Bool) → bound ≤ failing → true ≡ (ltb budget cost || not (ltb failing bound) || beaten)
-    back-failing beaten k = rw (le-ltb budget cost h, le-ltb failing bound k) refl
+-- a number that is not more than another is less than the next
+not-more : (x y : ℕ) → not (ltb x y) ≡ ltb y (x + 1)
+not-more x y =
+    both-ways _ _
+    (λ e. lt-ltb y (x + 1) (omega (arith, ltb-false x y (not-true (ltb x y) e))))
+    (λ e. rw (le-ltb x y (omega (arith, ltb-true y (x + 1) e))) refl)
 
-    -- and where the bound passes, one that is beaten
-    pub back-beaten : {r beaten : Bool} → failing < bound → r ≡ beaten → r ≡ (ltb budget cost || not (ltb failing bound) || beaten)
-    back-beaten k e = rw (le-ltb budget cost h, lt-ltb failing bound k) e
+-- a number that is not more than a smaller one is less than a larger one
+less-too : (x y z : ℕ) → x < z → (not (ltb x y) || ltb y z) ≡ ltb y z
+less-too x y z h = go (ltb x y) refl
+  where
+    go : (b : Bool) → ltb x y ≡ b → (not b || ltb y z) ≡ ltb y z
+    go true e = refl
+    go false e = sym (lt-ltb y z (omega (arith, ltb-false x y e)))
 
-module _ (bound failing : ℕ) where
-  -- a plan whose bound does not pass is not worth a visit
-  pub worth-failing : (rest : Bool) → bound ≤ failing → false ≡ (ltb failing bound && rest)
-  worth-failing rest h = rw (le-ltb failing bound h) refl
+-- the last two of three tests are one
+joint : (a b c : Bool) {d : Bool} → (b || c) ≡ d → (a || b || c) ≡ (a || d)
+joint true b c e = refl
+joint false b c e = e
 
-  -- one whose bound passes is unless it is beaten
-  pub worth-passing : {r beaten : Bool} → failing < bound → r ≡ beaten → not r ≡ (ltb failing bound && not beaten)
-  worth-passing h e = rw (lt-ltb failing bound h, e) refl
+-- of two tests neither holds
+none-holds : (a b : Bool) → (a && not b) ≡ not (not a || b)
+none-holds true b = refl
+none-holds false b = refl
+
+-- without room a visit goes back
+pub back-dear : (room : ℕ) (x : Bool) → room ≡ 0 → true ≡ (eqb room 0 || x)
+back-dear room x e = rw (eq-eqb room 0 e) refl
+
+-- with room the other test decides
+pub back-other : (room : ℕ) {r x : Bool} → (room ≡ 0 → ⊥) → r ≡ x → r ≡ (eqb room 0 || x)
+back-other room f e = rw (ne-eqb room 0 f) e
+
+module _ {A : Type 0} (x y : A) {r b : Bool} (e : r ≡ b) {z : A} where
+  -- where a test fails the second of two is kept
+  pub kept-old : not r ≡ true → z ≡ y → z ≡ cond b x y
+  kept-old h f = rw (← e, not-true r h) f
+
+  -- where it holds the first is
+  pub kept-new : not r ≡ false → z ≡ x → z ≡ cond b x y
+  kept-new h f = rw (← e, not-false r h) f
+
+-- where it holds the bound and the room are written
+pub kept-numbers : {r b : Bool} → r ≡ b → not r ≡ false → (tally : List ℕ) {bound room x y : ℕ} → x ≡ bound → y ≡ room → set (set tally 0 x) 1 y ≡ cond b (set (set tally 0 bound) 1 room) tally
+kept-numbers e h tally f g = kept-new _ _ e h (rw (f, g) refl)
 
 -- ---------------------------------------------------------------------------
 -- The ranking of two plans
@@ -65,127 +102,185 @@ module _ (x c : ℕ) (p : List ℕ) (y d : ℕ) (q : List ℕ) {r : Bool} where
   unfolding ranksOver
   ranks-score f e = simp (ne-eqb x y f, or-false) e
 
-  -- of equal scores, the lower of two costs that differ
-  pub ranks-cost : x ≡ y → (c ≡ d → ⊥) → r ≡ ltb c d → r ≡ ranksOver x c p y d q
+  -- of equal scores, the larger of two rooms that differ
+  pub ranks-room : x ≡ y → (c ≡ d → ⊥) → r ≡ ltb d c → r ≡ ranksOver x c p y d q
   unfolding ranksOver
-  ranks-cost e f g = simp (le-ltb y x (omega arith), eq-eqb x y e, ne-eqb c d f, or-false) g
+  ranks-room e f g = simp (le-ltb y x (omega arith), eq-eqb x y e, ne-eqb c d f, or-false) g
 
-  -- of equal scores and costs, the plan that takes the first line where they differ
+  -- of equal scores and rooms, the plan that takes the first line where they differ
   pub ranks-lines : x ≡ y → c ≡ d → r ≡ takesFirst p q → r ≡ ranksOver x c p y d q
   unfolding ranksOver
-  ranks-lines e f g = simp (le-ltb y x (omega arith), eq-eqb x y e, le-ltb c d (omega arith), eq-eqb c d f) g
+  ranks-lines e f g = simp (le-ltb y x (omega arith), eq-eqb x y e, le-ltb d c (omega arith), eq-eqb c d f) g
 
-module _ (p q : Plan) (same : p .count ≡ q .count) (few : p .count ≤ 20) (long : (length (p .marks) ≡ 20) × (length (q .marks) ≡ 20)) (i : ℕ) where
-  module _ (h : i < p .count) {m n : ℕ} (e : m ≡ getD (p .marks) i 0) (f : n ≡ getD (q .marks) i 0) where
+-- a score that is not lower, with more room, ranks first
+ranks-larger : (x c : ℕ) (p : List ℕ) (y d : ℕ) (q : List ℕ) → y ≤ x → d < c → ranksOver x c p y d q ≡ true
+unfolding ranksOver
+ranks-larger x c p y d q h k =
+    ⊎-elim
+    (λ e. sym (ranks-room x c p y d q (sym e) (λ f. omega arith) (sym (lt-ltb d c k))))
+    (λ l. rw (lt-ltb y x l) refl)
+    (eq-or-lt-of-le {n = y} {m = x} h)
+
+module _ (p q : List ℕ) (i : ℕ) where
+  module _ (h : i < length p) (k : i < length q) {m n : ℕ} (e : m ≡ getD p i 0) (f : n ≡ getD q i 0) where
     -- which of two plans comes first, from line i on
-    first-cons : takesFirst (drop i (rows p)) (drop i (rows q)) ≡ cond (eqb m n) (takesFirst (drop (i + 1) (rows p)) (drop (i + 1) (rows q))) (eqb m 1)
+    first-cons : takesFirst (drop i p) (drop i q) ≡ cond (eqb m n) (takesFirst (drop (i + 1) p) (drop (i + 1) q)) (eqb m 1)
     unfolding takesFirst
-    first-cons =
-        rw (row-cons (p .marks) (p .count) i (omega arith) h, row-cons (q .marks) (q .count) i (omega arith) (omega arith), e, f) refl
+    first-cons = rw (add-one, drop-cons p i 0 h, drop-cons q i 0 k, e, f) refl
 
     -- where two plans differ, the one that takes the line comes first
-    pub first-here : {r : Bool} → (m ≡ n → ⊥) → r ≡ eqb m 1 → takesFirst (drop i (rows p)) (drop i (rows q)) ≡ r
+    pub first-here : {r : Bool} → (m ≡ n → ⊥) → r ≡ eqb m 1 → takesFirst (drop i p) (drop i q) ≡ r
     first-here d g = rw (g, first-cons, ne-eqb m n d) refl
 
     -- where they do not, the rest tells
-    pub first-next : m ≡ n → takesFirst (drop i (rows p)) (drop i (rows q)) ≡ takesFirst (drop (i + 1) (rows p)) (drop (i + 1) (rows q))
+    pub first-next : m ≡ n → takesFirst (drop i p) (drop i q) ≡ takesFirst (drop (i + 1) p) (drop (i + 1) q)
     first-next d = rw (first-cons, eq-eqb m n d) refl
 
   -- after the last line nothing tells them apart
-  pub first-end : i ≡ p .count → takesFirst (drop i (rows p)) (drop i (rows q)) ≡ false
+  pub first-end : length p ≤ i → takesFirst (drop i p) (drop i q) ≡ false
   unfolding takesFirst
-  first-end e = rw (drop-of-length-le (rows p) {i = i} (rw (length-take-le (p .count) (p .marks) (omega arith)) (omega arith))) refl
+  first-end h = rw (drop-of-length-le p {i = i} h) refl
+
+-- a plan does not come before itself
+first-same : (z : List ℕ) → takesFirst z z ≡ false
+unfolding takesFirst
+first-same [] = refl
+first-same (m ∷ z) = rw (eq-eqb m m refl) (first-same z)
+
+-- the same marks after two plans change nothing
+first-append : (p q z : List ℕ) → length p ≡ length q → takesFirst (p ++ z) (q ++ z) ≡ takesFirst p q
+unfolding takesFirst
+first-append [] [] z e = first-same z
+first-append [] (n ∷ q) z e = absurd (omega arith)
+first-append (m ∷ p) [] z e = absurd (omega arith)
+first-append (m ∷ p) (n ∷ q) z e = rw (first-append p q z (omega arith)) refl
+
+-- nor do the marks after the last choice
+first-padded : (p q : List ℕ) → length p ≡ length q → takesFirst (padded p) (padded q) ≡ takesFirst p q
+first-padded p q e = rw e (first-append p q _ e)
 
 -- ---------------------------------------------------------------------------
--- What is held after a finished plan
+-- The tests of a visit
 
--- The tally with a finished plan held
-abbrev pub finished : Branch → Tally → Tally
-finished b w = record { held = true; best = b .plan; score = b .bound; cost = b .cost; visits = w .visits }
-
-module _ (b : Branch) (w : Tally) where
-  module _ {r : Bool} (e : r ≡ ranksOver (b .bound) (b .cost) (rows (b .plan)) (w .score) (w .cost) (rows (w .best))) where
-    -- a plan that the finished one does not rank before is held on
-    pub kept-old : w .held ≡ true → not r ≡ true → w ≡ kept b w
-    unfolding kept
-    kept-old h k = rw (h, ← e, k) refl
-
-    -- another gives way
-    pub kept-new : w .held ≡ true → not r ≡ false → finished b w ≡ kept b w
-    unfolding kept
-    kept-new h k = rw (h, ← e, k) refl
-
-  -- where none is held the finished one is
-  pub kept-first : w .held ≡ false → finished b w ≡ kept b w
-  unfolding kept
-  kept-first h = rw h refl
-
-  -- what holds of both tallies holds of the one kept
-  kept-either : (P : Tally → Type 0) → P w → P (finished b w) → P (kept b w)
-  unfolding kept
-  kept-either P old new =
-      go (w .held && not (ranksOver (b .bound) (b .cost) (rows (b .plan)) (w .score) (w .cost) (rows (w .best))))
+module _ {t : Table} {budget failing : ℕ} {held : Option (List ℕ)} {best tally : List ℕ} (holds : Holds t budget failing held best tally) (percent : ℕ) (passing : LargestFailing t percent failing) where
+  -- a bound does not pass or is beaten where it is less than the least that is worth a visit
+  least-is : (x : ℕ) → (not (ltb failing x) || beaten (terms t budget percent) held x) ≡ ltb x (getD tally 0 0)
+  unfolding terms beaten
+  least-is x = go held refl
     where
-      go : (k : Bool) → P (cond k w (finished b w))
-      go true = old
-      go false = new
+      go : (h : Option (List ℕ)) → held ≡ h → (not (ltb failing x) || beaten (terms t budget percent) h x) ≡ ltb x (getD tally 0 0)
+      go none e = rw (holds .nothing e .0, or-false) (not-more failing x)
+      go (some q) e =
+          let q-held = holds .something q e in
+          rw (q-held .scored) (less-too failing x (score t q) (q-held .passes))
 
-module _ {t : Table} {w : Tally} (fitted : Fitted t w) where
-  -- ---------------------------------------------------------------------------
-  -- The tests of a visit
+  -- a visit goes back
+  pub back-is : (p : List ℕ) {room bound : ℕ} {r : Bool} → room ≡ budget + 1 - cost p → bound ≡ upperBound t p → r ≡ (eqb room 0 || ltb bound (getD tally 0 0)) → goesBack (terms t budget percent) p held ≡ r
+  unfolding terms goesBack
+  back-is p er eb e =
+      rw (e, er, eb, no-room budget (cost p), passing (upperBound t p))
+      (joint (ltb budget (cost p)) _ _ (least-is (upperBound t p)))
 
-  -- the score held beats a bound
-  beaten-is : (budget percent x : ℕ) → beaten (terms t budget percent) (heldOf w) x ≡ (w .held && ltb x (w .score))
-  unfolding terms beaten heldOf
-  beaten-is budget percent x = go (w .held) refl
-    where
-      go : (h : Bool) → w .held ≡ h → beaten (terms t budget percent) (cond h (some (rows (w .best))) none) x ≡ (h && ltb x (w .score))
-      go true e = rw (fitted .score e) refl
-      go false e = refl
+  -- a plan with a line left is visited
+  pub worth-is : (p : List ℕ) {x : ℕ} {r : Bool} → x ≡ upperBound t p → r ≡ ltb x (getD tally 0 0) → worthwhile (terms t budget percent) p held ≡ not r
+  unfolding terms worthwhile
+  worth-is p ex e =
+      rw (e, ex, passing (upperBound t p), ← least-is (upperBound t p)) (none-holds (ltb failing (upperBound t p)) _)
 
-  module _ (percent failing : ℕ) (passing : LargestFailing t percent failing) (p : List ℕ) (budget : ℕ) {x : ℕ} (top : x ≡ upperBound t p) {r : Bool} where
-    -- a visit goes back
-    pub back-is : {c : ℕ} → c ≡ cost p → r ≡ (ltb budget c || not (ltb failing x) || w .held && ltb x (w .score)) → goesBack (terms t budget percent) p (heldOf w) ≡ r
-    unfolding terms goesBack
-    back-is charged e =
-        rw (e, charged, top, passing (upperBound t p), beaten-is budget percent (upperBound t p)) refl
+-- ---------------------------------------------------------------------------
+-- What is held
 
-    -- a plan with a line left is visited
-    pub worth-is : r ≡ (ltb failing x && not (w .held && ltb x (w .score))) → worthwhile (terms t budget percent) p (heldOf w) ≡ r
-    unfolding terms worthwhile
-    worth-is e = rw (e, top, passing (upperBound t p), beaten-is budget percent (upperBound t p)) refl
+-- a plan is held where its numbers are
+one-held : {t : Table} {budget failing : ℕ} {p best tally : List ℕ} → Holding t budget failing p best tally → Holds t budget failing (some p) best tally
+one-held {t} {budget} {failing} {p} {best} {tally} h =
+    record {
+      nothing = λ e. absurd (Option·some-ne-none p e);
+      something = λ q e. rw (← Option·some-injective p q e) h;
+    }
 
-  -- ---------------------------------------------------------------------------
-  -- A finished plan
+-- a visit more changes nothing of what is held
+pub counted-holds : {t : Table} {budget failing : ℕ} {held : Option (List ℕ)} {best tally tally′ : List ℕ} → Holds t budget failing held best tally → length tally ≡ 3 → tally′ ≡ set tally 2 (getD tally 2 0 + 1) → Holds t budget failing held best tally′
+counted-holds {t} {budget} {failing} {held} {best} {tally} {tally′} holds size e =
+    let least : getD tally′ 0 0 ≡ getD tally 0 0 = rw e (getD-set-other tally 2 0 _ 0 (omega arith)) in
+    let room : getD tally′ 1 0 ≡ getD tally 1 0 = rw e (getD-set-other tally 2 1 _ 0 (omega arith)) in
+    record {
+      nothing = λ n. (least ∙ holds .nothing n .0, room ∙ holds .nothing n .1);
+      something = λ q s.
+          let h = holds .something q s in
+          record {
+            size = h .size;
+            plan = h .plan;
+            scored = least ∙ h .scored;
+            room = room ∙ h .room;
+            within = h .within;
+            passes = h .passes;
+          };
+    }
 
-  module _ (b : Branch) (charged : b .cost ≡ cost (rows (b .plan))) (scored : b .bound ≡ score t (rows (b .plan))) where
+-- A finished plan
+module _ {t : Table} {budget failing : ℕ} {held : Option (List ℕ)} {best tally : List ℕ} (holds : Holds t budget failing held best tally) (size : length tally ≡ 3) (p : List ℕ) (room bound : ℕ) (marks : List ℕ) {best′ tally′ : List ℕ} (eb : best′ ≡ cond (ranksOver bound room marks (getD tally 0 0) (getD tally 1 0) best) marks best) (et : tally′ ≡ cond (ranksOver bound room marks (getD tally 0 0) (getD tally 1 0) best) (set (set tally 0 bound) 1 room) tally) where
+  module _ (long : length p ≡ choiceCount (t .variables)) (few : choiceCount (t .variables) ≤ 20) (full : openCount p ≡ 0) (em : marks ≡ padded p) (er : room ≡ budget + 1 - cost p) (ex : bound ≡ upperBound t p) (stays : (eqb room 0 || ltb bound (getD tally 0 0)) ≡ false) where
+    -- its bound is its score
+    bound-score : bound ≡ score t p
+    unfolding upperBound
+    bound-score = ex ∙ ap (score t) (full-taken p full)
+
+    -- it is within the budget
+    within-budget : cost p ≤ budget
+    within-budget = omega (arith, er, eqb-false room 0 (neither (eqb room 0) stays .0))
+
+    -- its bound is worth a visit
+    worth-visit : getD tally 0 0 ≤ bound
+    worth-visit = ltb-false bound (getD tally 0 0) (neither (eqb room 0) stays .1)
+
+    -- where it ranks first it is held
+    new-held : ranksOver bound room marks (getD tally 0 0) (getD tally 1 0) best ≡ true → failing < score t p → Holds t budget failing (some p) best′ tally′
+    new-held e h =
+        rw (eb, et, e)
+        (one-held
+        (record {
+          size = long;
+          plan = em;
+          scored = getD-set-other (set tally 0 bound) 1 0 room 0 (omega arith) ∙ getD-set-same tally 0 bound 0 (omega arith) ∙ bound-score;
+          room = getD-set-same (set tally 0 bound) 1 room 0 (rw length-set (omega arith)) ∙ er;
+          within = within-budget;
+          passes = h;
+        }))
+
+    -- where it does not, what was held is held on
+    old-held : ranksOver bound room marks (getD tally 0 0) (getD tally 1 0) best ≡ false → Holds t budget failing held best′ tally′
+    old-held e = rw (eb, et, e) holds
+
+    -- where nothing is held it ranks first
+    first-ranks : held ≡ none → ranksOver bound room marks (getD tally 0 0) (getD tally 1 0) best ≡ true
+    first-ranks e =
+        ranks-larger bound room marks _ _ best worth-visit
+        (omega (arith, er, within-budget, holds .nothing e .1))
+
     -- the numbers held rank as the plans do
-    ranks-is : w .held ≡ true → ranksOver (b .bound) (b .cost) (rows (b .plan)) (w .score) (w .cost) (rows (w .best)) ≡ ranksBefore t (rows (b .plan)) (rows (w .best))
+    ranks-is : (q : List ℕ) → held ≡ some q → ranksOver bound room marks (getD tally 0 0) (getD tally 1 0) best ≡ ranksBefore t p q
     unfolding ranksOver ranksBefore
-    ranks-is h = rw (charged, scored, fitted .score h, fitted .cost h) refl
+    ranks-is q e =
+        let h = holds .something q e in
+        rw (bound-score, er, em, h .scored, h .room, h .plan, more-room budget (cost p) (cost q) within-budget (h .within), same-room budget (cost p) (cost q) within-budget (h .within), first-padded p q (long ∙ sym (h .size))) refl
 
     -- what is held then is the better of the two
-    pub kept-better : heldOf (kept b w) ≡ better t (heldOf w) (rows (b .plan))
-    unfolding heldOf better
-    kept-better = go (w .held) refl (ranksBefore t (rows (b .plan)) (rows (w .best))) refl
+    pub kept-holds : Holds t budget failing (better t held p) best′ tally′
+    unfolding better
+    kept-holds = go held refl
       where
-        go : (h : Bool) → w .held ≡ h → (r : Bool) → r ≡ ranksBefore t (rows (b .plan)) (rows (w .best)) → heldOf (kept b w) ≡ better t (heldOf w) (rows (b .plan))
-        go true h true e = rw (← kept-new b w (e ∙ sym (ranks-is h)) h refl, h, ← e) refl
-        go true h false e = rw (← kept-old b w (e ∙ sym (ranks-is h)) h refl, h, ← e) refl
-        go false h r e = rw (← kept-first b w h, h) refl
+        go : (h : Option (List ℕ)) → held ≡ h → Holds t budget failing (better t h p) best′ tally′
+        go none e = new-held (first-ranks e) (omega (arith, worth-visit, bound-score, holds .nothing e .0))
+        go (some q) e = beside (ranksBefore t p q) refl
+          where
+            beside : (r : Bool) → ranksBefore t p q ≡ r → Holds t budget failing (some (cond r p q)) best′ tally′
+            beside true f = new-held (ranks-is q e ∙ f) (omega (arith, worth-visit, bound-score, holds .something q e .scored, holds .something q e .passes))
+            beside false f = rw (← e) (old-held (ranks-is q e ∙ f))
 
-    -- and its score and its cost are held
-    pub kept-fitted : (length (b .plan .marks) ≡ 20) × (b .plan .count ≡ choiceCount (t .variables)) × (b .plan .count ≤ 20) → Fitted t (kept b w)
-    kept-fitted long =
-        kept-either b w (Fitted t) fitted (record { score = λ _. scored; cost = λ _. charged; long = long })
-
-  -- ---------------------------------------------------------------------------
-  -- Counting
-
-  -- a visit more changes nothing of what is held
-  pub counted-fitted : {u : Tally} → u ≡ record { held = w .held; best = w .best; score = w .score; cost = w .cost; visits = w .visits + 1 } → Fitted t u
-  counted-fitted e = rw e (record { score = fitted .score; cost = fitted .cost; long = fitted .long })
-
--- a finished plan is no visit more
-pub kept-visits : (b : Branch) (w : Tally) → kept b w .visits ≡ w .visits
-kept-visits b w = kept-either b w (λ u. u .visits ≡ w .visits) refl refl
+  -- a finished plan is no visit more
+  pub kept-visits : getD tally′ 2 0 ≡ getD tally 2 0
+  kept-visits = rw et (go (ranksOver bound room marks (getD tally 0 0) (getD tally 1 0) best))
+    where
+      go : (r : Bool) → getD (cond r (set (set tally 0 bound) 1 room) tally) 2 0 ≡ getD tally 2 0
+      go true = getD-set-other (set tally 0 bound) 1 2 room 0 (omega arith) ∙ getD-set-other tally 0 2 bound 0 (omega arith)
+      go false = refl

@@ -1,186 +1,308 @@
 -- A visit of the search leaves what the visit rule leaves, in each of the four ways in which a visit goes, and gives what it calls what that asks for.
--- Assumes what a search starts from (`Ground`), what a branch holds (`Stands`), and that the score and the cost held are the held plan's (`Fitted`).
-use Prim.Native.Nat.{ℕ, suc, _+_, _-_, _≤_, _<_, _^_}
+-- Assumes all that a visit is handed (`Visitable`), and that its arrays have their lengths.
+use Prim.Native.Nat.{ℕ, zero, suc, _+_, _-_, _≤_, _<_, _^_}
 use native.Mathlib.Nat.{pow-suc}
 use native.Mathlib.Numerals.{add-one}
 use native.Mathlib.Omega.{arith}
 use mathlib.Core.Path.{_≡_, refl, sym, ap, _∙_}
-use mathlib.Core.Bool.{Bool, true, false, not, _&&_, _||_}
+use mathlib.Core.Bool.{Bool, true, false, cond, not, _||_}
 use mathlib.Core.List.{List}
-use lib.ListN.{getD, set}
-use lib.Dec.{ltb}
+use lib.ListN.{length, getD, set, length-set}
+use lib.Seq.{getD-set-same, set-set}
+use lib.Dec.{eqb, ltb}
 use lib.Pow.{pow-pos}
-use Rattle.diagram.specs.Table.{Table, root}
+use borrow.Author.Tests.{eqb-false}
 use Rattle.diagram.specs.Plans.{openCount, upperBound}
-use Rattle.diagram.specs.Ranking.{better}
 use Rattle.diagram.specs.Visits as visits
 use Rattle.diagram.specs.Visits.{lowestOpen}
-use Rattle.scoring.specs.Value.{place, gap}
-use Rattle.scoring.specs.Passes.{Marked}
-use Rattle.rule.specs.Rule.{terms, goesBack, worthwhile, rule}
+use Rattle.diagram.proofs.Every.{neither}
+use Rattle.rule.specs.Rule.{Terms, terms, goesBack, worthwhile, rule}
 use Rattle.rule.proofs.Ruling.{rule-back, rule-full, rule-taken, rule-both, rule-visits}
-use Rattle.search.specs.declared.branch.Branch.{Branch}
-use Rattle.search.specs.declared.job.Job.{Job}
-use Rattle.search.specs.declared.tally.Tally.{Tally}
-use Rattle.search.specs.State.{rows, taken, leftOut, heldOf, tallyOf, kept, Ground, Stands, Fitted}
-use Rattle.search.proofs.Tallying.{back-is, worth-is, kept-better, kept-fitted, counted-fitted, kept-visits}
+use Rattle.layers.specs.Layers.{Layers, passNodes, ownNodes, dropSum, leaveNodes, Enterable}
+use Rattle.layers.specs.Flows.{Same}
+use Rattle.search.specs.State.{Holds, ranksOver, Scene, Visitable, ruled, Visited}
+use Rattle.search.proofs.Tallying.{back-is, worth-is, counted-holds, kept-holds, kept-visits}
 use Rattle.search.proofs.Branching as branching
+use Rattle.search.proofs.Branching.{marked, marked-ground}
 
--- What a visit of branch b that finds tally w leaves: the rule's tally, with the score and the cost of its plan
-abbrev pub Ruled : Table → (percent : ℕ) → Job → Branch → (w u : Tally) → Type 0
-Ruled t percent job b w u =
-    (tallyOf u ≡ rule (openCount (rows (b .plan))) (terms t (job .budget) percent) (rows (b .plan)) (tallyOf w)) × Fitted t u
+-- ---------------------------------------------------------------------------
+-- The visits that are left
 
--- What a visit of branch b that finds tally w asks for: less than n lines are open, and it counts to no more than `most`
-abbrev pub Ready : (at ps hs ls ha la numbers : List ℕ) → Job → (n most : ℕ) → Branch → Tally → Type 0
-Ready at ps hs ls ha la numbers job n most b w =
-    (job .lines - b .settled < n) × (((t : Table) × (percent : ℕ) × Ground t percent at job × Stands t ps hs ls ha la numbers job b × Fitted t w) × (w .visits + 2 ^ suc (openCount (rows (b .plan))) ≤ most))
+-- a visit of the plan with a line taken finds room for its visits
+room-first : (n x : ℕ) → (n ≡ 0 → ⊥) → x + 2 ^ suc n ≤ 2 ^ 63 → x + 1 + 2 ^ suc (n - 1) ≤ 2 ^ 63
+room-first zero x more h = absurd (more refl)
+room-first (suc n) x more h =
+    let e : suc n - 1 ≡ n = omega arith in
+    rw e (omega (arith, pow-suc 2 (suc n), pow-pos (suc n)))
 
--- The tests of a visit as the code makes them
-abbrev backTest : Job → Branch → Tally → Bool
-backTest job b w = ltb (job .budget) (b .cost) || not (ltb (job .failing) (b .bound)) || w .held && ltb (b .bound) (w .score)
+-- and so does one of the plan with it left
+room-second : (n x y : ℕ) → (n ≡ 0 → ⊥) → x + 2 ^ suc n ≤ 2 ^ 63 → y + 1 ≤ x + 1 + 2 ^ suc (n - 1) → y + 2 ^ suc (n - 1) ≤ 2 ^ 63
+room-second zero x y more h k = absurd (more refl)
+room-second (suc n) x y more h k =
+    let e : suc n - 1 ≡ n = omega arith in
+    rw e (omega (arith, pow-suc 2 (suc n), rw e at k))
 
-abbrev worthTest : Job → Branch → Tally → Bool
-worthTest job b w = ltb (job .failing) (b .bound) && not (w .held && ltb (b .bound) (w .score))
+-- ---------------------------------------------------------------------------
+-- A visit
 
--- u is w with one visit more
-abbrev Counted : (w u : Tally) → Type 0
-Counted w u = u ≡ record { held = w .held; best = w .best; score = w .score; cost = w .cost; visits = w .visits + 1 }
+-- cells are the same as themselves
+same-refl : (l : Layers) (i : ℕ) (cells : List ℕ) → Same l i cells cells
+same-refl l i cells = record { high = λ j h. refl; low = λ j h. refl; root = refl }
 
--- it holds the same plan, and counts the visit as the rule does
-counted-tally : (w : Tally) {u : Tally} → Counted w u → tallyOf u ≡ record { held = tallyOf w .held; visits = suc (tallyOf w .visits) }
-unfolding tallyOf heldOf
-counted-tally w e = rw (e, add-one)
+-- The parts of the rule for a scene
+abbrev parts : Scene → Terms
+parts g = terms (g .table) (g .budget) (g .percent)
 
-module _ {t : Table} {percent : ℕ} {at : List ℕ} {job : Job} {ps hs ls ha la numbers : List ℕ} {b : Branch} {w u : Tally} (ground : Ground t percent at job) (stands : Stands t ps hs ls ha la numbers job b) (fitted : Fitted t w) (now : Counted w u) where
-  -- ---------------------------------------------------------------------------
-  -- The first test
+-- The lengths of the arrays
+abbrev Sizes : (cells marks best tally : List ℕ) → Type 0
+Sizes cells marks best tally = (length cells ≡ 512) × (length marks ≡ 20) × (length best ≡ 20) × (length tally ≡ 3)
 
-  module _ {r : Bool} (test : r ≡ backTest job b u) where
-    -- it is the rule's
-    back-test : goesBack (terms t (job .budget) percent) (rows (b .plan)) (tallyOf w .held) ≡ r
-    unfolding tallyOf
+-- What a visit asks for: the arrays have their lengths, the plan may be visited, and there is room for the visits
+abbrev pub Ready : Layers → (losses lines cells marks best tally : List ℕ) → (n room bound : ℕ) → Type 0
+Ready l losses lines cells marks best tally n room bound =
+    Sizes cells marks best tally × (((g : Scene) × Visitable g l losses lines cells marks best tally n room bound) × (getD tally 2 0 + 2 ^ suc n ≤ 2 ^ 63))
+
+-- either of two arrays of a length has it
+either-long : (b : Bool) (y z : List ℕ) {k : ℕ} → length y ≡ k → length z ≡ k → length (cond b y z) ≡ k
+either-long true y z hy hz = hy
+either-long false y z hy hz = hz
+
+module _ {g : Scene} {l : Layers} {losses lines cells marks best tally : List ℕ} {n room bound : ℕ} (given : Visitable g l losses lines cells marks best tally n room bound) (sizes : Sizes cells marks best tally) {tally₁ : List ℕ} (now : tally₁ ≡ set tally 2 (getD tally 2 0 + 1)) where
+  -- the visit is counted, and nothing else is held
+  counted : Holds (g .table) (g .budget) (g .failing) (g .held) best tally₁
+  counted = counted-holds (given .holds) (sizes .3) now
+
+  counted-visits : getD tally₁ 2 0 ≡ suc (getD tally 2 0)
+  counted-visits = rw (now, getD-set-same tally 2 (getD tally 2 0 + 1) 0 (omega (arith, sizes .3)), add-one) refl
+
+  counted-size : length tally₁ ≡ 3
+  counted-size = rw (now, length-set tally 2 (getD tally 2 0 + 1)) (sizes .3)
+
+  -- a finished plan may be kept
+  pub keep-ready : (length marks ≡ 20) × (length best ≡ 20) × (length tally₁ ≡ 3)
+  keep-ready = (sizes .1, sizes .2, counted-size)
+
+  -- What the rule finds
+  abbrev found : visits.Tally
+  found = record { held = g .held; visits = getD tally 2 0 }
+
+  module _ {r : Bool} (test : r ≡ (eqb room 0 || ltb bound (getD tally₁ 0 0))) where
+    -- the first test is the rule's
+    back-test : goesBack (parts g) (g .plan) (g .held) ≡ r
     back-test =
-        let same : heldOf u ≡ heldOf w = ap (λ (x : visits.Tally). x .held) (counted-tally w now) in
-        rw same at (back-is (counted-fitted fitted now) percent (job .failing) (ground .failing) (rows (b .plan)) (job .budget) (stands .bound) (stands .cost) test)
+        back-is counted (g .percent) (given .ground .passing) (g .plan) (given .stands .kits) (given .stands .top) test
 
     -- a visit that goes back
-    pub visit-back : r ≡ true → Ruled t percent job b w u
-    visit-back back = (counted-tally w now ∙ sym (rule-back _ _ _ _ (back-test ∙ back)), counted-fitted fitted now)
+    pub visit-back : r ≡ true → Visited g l (getD lines n 0) (getD tally 2 0) cells marks cells marks best tally₁
+    visit-back back =
+        let rules = rule-back (openCount (g .plan)) (parts g) (g .plan) found (back-test ∙ back) in
+        record {
+          sizes = (sizes .0, sizes .2, counted-size);
+          holds = rw rules counted;
+          counts = rw rules counted-visits;
+          kept = refl;
+          same = same-refl l _ cells;
+        }
+
+    module _ (stays : r ≡ false) where
+      -- there is room for a kit
+      pub room-some : 1 ≤ room
+      room-some = omega (arith, eqb-false room 0 (neither (eqb room 0) (sym test ∙ stays) .0))
+
+      -- a visit with no line open
+      pub visit-full : n ≡ 0 → {best′ tally′ : List ℕ} → best′ ≡ cond (ranksOver bound room marks (getD tally₁ 0 0) (getD tally₁ 1 0) best) marks best → tally′ ≡ cond (ranksOver bound room marks (getD tally₁ 0 0) (getD tally₁ 1 0) best) (set (set tally₁ 0 bound) 1 room) tally₁ → Visited g l (getD lines n 0) (getD tally 2 0) cells marks cells marks best′ tally′
+      unfolding terms
+      visit-full none eb et =
+          let stands = given .stands in
+          let full = branching.plan-full (given .ground) stands none in
+          let rules = rule-full (parts g) (g .plan) found (back-test ∙ stays) in
+          let before = ranksOver bound room marks (getD tally₁ 0 0) (getD tally₁ 1 0) best in
+          let long : length (set (set tally₁ 0 bound) 1 room) ≡ 3 = simp length-set counted-size in
+          record {
+            sizes = (sizes .0, rw eb (either-long before marks best (sizes .1) (sizes .2)), rw et (either-long before _ tally₁ long counted-size));
+            holds = rw (full, rules) (kept-holds counted counted-size (g .plan) room bound marks eb et (branching.plan-length (given .ground) stands) (given .ground .few) full (stands .marked) (stands .kits) (stands .top) (sym test ∙ stays));
+            counts = rw (full, rules) (kept-visits counted counted-size (g .plan) room bound marks eb et ∙ counted-visits);
+            kept = refl;
+            same = same-refl l _ cells;
+          }
+
+  -- a visit of a plan that costs more than the budget
+  pub visit-over : room ≡ 0 → Visited g l (getD lines n 0) (getD tally 2 0) cells marks cells marks best tally₁
+  visit-over over = visit-back {r = true} (rw over refl) refl
 
   -- ---------------------------------------------------------------------------
-  -- A plan with no line open
+  -- The lowest open line
 
-  -- it has as many lines as the plan held
-  pub keep-ready : (b .plan .count ≡ u .best .count) × (b .plan .count ≤ 20)
-  keep-ready = (stands .long .1 ∙ sym (counted-fitted fitted now .long .1), stands .long .2)
+  module _ (more : n ≡ 0 → ⊥) where
+    -- its number, and where its layer, its own nodes, and what comes after them begin
+    abbrev d : ℕ
+    d = getD lines (n + 42) 0
 
-  -- a visit of it
-  pub visit-full : {r : Bool} → r ≡ backTest job b u → r ≡ false → b .settled ≡ job .lines → {v : Tally} → v ≡ kept b u → Ruled t percent job b w v
-  unfolding tallyOf terms
-  visit-full test stays full e =
-      let counted = counted-fitted fitted now in
-      let scored = branching.branch-score ground stands full in
-      let p = rows (b .plan) in (
-        rw
-            (e, branching.branch-full ground stands full, rule-full (terms t (job .budget) percent) p (tallyOf w) (back-test test ∙ stays), kept-better counted b (stands .cost) scored, kept-visits b u)
-            (ap (λ (x : visits.Tally). record { held = better t (x .held) p; visits = x .visits }) (counted-tally w now)),
-        rw e (kept-fitted counted b (stands .cost) scored (stands .long)),
-      )
+    abbrev from : ℕ
+    from = getD lines n 0
 
-  -- ---------------------------------------------------------------------------
-  -- A plan with open lines
+    abbrev own : ℕ
+    own = getD lines (n + 21) 0
 
-  module _ (more : b .settled ≡ job .lines → ⊥) {d : ℕ} (line : d ≡ getD numbers (b .settled) 0) where
-    -- the lowest may be taken, and may be left
-    pub take-ready : (d < 20) × (b .cost ≤ 20) × (b .settled ≤ 20)
-    take-ready =
-        (branching.line-few ground stands more line, branching.cost-few ground stands more line, omega (arith, branching.settled-few ground stands more line .1))
+    abbrev to : ℕ
+    to = getD lines (n - 1) 0
 
-    pub leave-ready : ((d < 20) × (getD at d 0 < 64) × (b .settled ≤ 20)) × ((t : Table) × (q : List ℕ) × Marked t q (job .records) ps hs ls ha la (set (b .marks) (getD at d 0) 2) × (job .weight ≡ gap t 0 (place t (root t))) × (1 ≤ job .records))
-    leave-ready =
-        ((take-ready .0, branching.place-few ground stands more line, take-ready .2), (t, _, branching.left-marked ground stands more line, ground .weight, ground .some))
+    -- its layer may be entered
+    pub enter-ready : (1 ≤ n) × (n ≤ 20) × ((k : ℕ) × Enterable l losses k (getD lines n 0) (getD lines (n + 21) 0) (getD lines (n - 1) 0) cells)
+    enter-ready =
+        let few = branching.unsettled-few (given .ground) (given .stands) more in
+        (few .0, few .1, (length (g .table .records), branching.enterable (given .ground) (given .stands) more (sizes .0)))
 
-    module _ {a : Branch} (take : a ≡ taken b d) where
-      -- the branch with the line taken has one line less open
-      first-count : openCount (rows (b .plan)) ≡ suc (openCount (rows (a .plan)))
-      first-count = rw take (branching.taken-count ground stands more line)
+    -- it may be marked
+    mark-ready : (marks′ : List ℕ) → length marks′ ≡ 20 → (n ≤ 20) × (getD lines (n + 42) 0 < 20) × (length marks′ ≡ 20)
+    mark-ready marks′ h =
+        (branching.unsettled-few (given .ground) (given .stands) more .1, branching.line-few (given .ground) (given .stands) more, h)
 
-      first-stands : Stands t ps hs ls ha la numbers job a
-      first-stands = rw take (branching.taken-stands ground stands more line)
+    pub take-ready : (n ≤ 20) × (getD lines (n + 42) 0 < 20) × (length marks ≡ 20)
+    take-ready = mark-ready marks (sizes .1)
+
+    -- what leaving it loses is at most the bound
+    pub drop-ready : {lost : ℕ} → lost ≡ dropSum l losses own (to - own) (passNodes l from (own - from) cells) → lost ≤ bound
+    drop-ready e = omega (arith, e, branching.lost-bound (given .ground) (given .stands) more (sizes .0) .0)
+
+    -- ---------------------------------------------------------------------------
+    -- The line taken
+
+    -- The scene of its visit
+    abbrev first : Scene
+    first = marked g d 1 (g .held)
+
+    module _ {cells₁ marks₁ : List ℕ} (enter : cells₁ ≡ ownNodes l own (to - own) (passNodes l from (own - from) cells)) (take : marks₁ ≡ set marks d 1) where
+      first-given : Visitable first l losses lines cells₁ marks₁ best tally₁ (n - 1) (room - 1) bound
+      first-given =
+          record {
+            ground = marked-ground (given .ground) d 1 (g .held);
+            stands = rw (enter, take) (branching.taken-stands (given .ground) (given .stands) more (sizes .0) (g .held));
+            holds = counted;
+          }
+
+      first-marks : length marks₁ ≡ 20
+      first-marks = rw (take, length-set marks d 1) (sizes .1)
 
       -- it may be visited
-      pub first-ready : {n most : ℕ} → job .lines - b .settled ≡ n → w .visits + 2 ^ suc (openCount (rows (b .plan))) ≤ most → Ready at ps hs ls ha la numbers job n most a u
-      unfolding taken
-      first-ready measure room =
-          let settled : a .settled ≡ b .settled + 1 = rw take in
-          let visits : u .visits ≡ w .visits + 1 = rw now in
-          let n = openCount (rows (a .plan)) in
-          (omega (arith, branching.settled-few ground stands more line .0), ((t, percent, ground, first-stands, counted-fitted fitted now), omega (arith, rw first-count at room, pow-suc 2 (suc n), pow-pos (suc n))))
+      pub first-ready : getD tally 2 0 + 2 ^ suc n ≤ 2 ^ 63 → Ready l losses lines cells₁ marks₁ best tally₁ (n - 1) (room - 1) bound
+      first-ready fits =
+          let long : length cells₁ ≡ 512 = rw enter (branching.entered-long (given .ground) (given .stands) more (sizes .0)) in
+          ((long, first-marks, sizes .2, counted-size), ((first, first-given), rw (counted-visits, ← add-one) (room-first n (getD tally 2 0) more fits)))
 
-      module _ {v : Tally} (visited : Stands t ps hs ls ha la numbers job a → Fitted t u → Ruled t percent job a u v) {l : Branch} (leave : (q : List ℕ) → Marked t q (job .records) ps hs ls ha la (set (b .marks) (getD at d 0) 2) → job .weight ≡ gap t 0 (place t (root t)) → l ≡ leftOut b d (getD at d 0) (upperBound t q)) where
+      module _ {cells₂ marks₂ best₂ tally₂ : List ℕ} (visited : (g : Scene) → Visitable g l losses lines cells₁ marks₁ best tally₁ (n - 1) (room - 1) bound → Visited g l to (getD tally₁ 2 0) cells₁ marks₁ cells₂ marks₂ best₂ tally₂) where
         -- what its visit leaves
-        first : Ruled t percent job a u v
-        first = visited first-stands (counted-fitted fitted now)
+        first-left : Visited first l to (getD tally₁ 2 0) cells₁ marks₁ cells₂ marks₂ best₂ tally₂
+        first-left = visited first first-given
 
-        -- the branch with the line left has as many lines open
-        left : l ≡ leftOut b d (getD at d 0) (upperBound t (branching.leftPlan ground stands more line))
-        left = leave _ (branching.left-marked ground stands more line) (ground .weight)
+        -- it may be marked again
+        again-marks : length marks₂ ≡ 20
+        again-marks = rw (first-left .kept) first-marks
 
-        second-count : openCount (rows (l .plan)) ≡ openCount (rows (a .plan))
-        second-count =
-            rw left (omega (arith, first-count, branching.left-count ground stands more line (upperBound t (branching.leftPlan ground stands more line))))
+        pub again-ready : (n ≤ 20) × (getD lines (n + 42) 0 < 20) × (length marks₂ ≡ 20)
+        again-ready = mark-ready marks₂ again-marks
 
-        second-stands : Stands t ps hs ls ha la numbers job l
-        second-stands = rw left (branching.left-stands ground stands more line _ refl)
+        -- What the rule has then
+        abbrev after : visits.Tally
+        after = rule (n - 1) (parts g) (set (g .plan) (lowestOpen (g .plan)) 1) (record { held = g .held; visits = suc (getD tally 2 0) })
 
-        -- it may be visited after the other
-        pub second-ready : {n most : ℕ} → job .lines - b .settled ≡ n → w .visits + 2 ^ suc (openCount (rows (b .plan))) ≤ most → Ready at ps hs ls ha la numbers job n most l v
-        unfolding leftOut tallyOf
-        second-ready measure room =
-            let settled : l .settled ≡ b .settled + 1 = rw left in
-            let visits : u .visits ≡ w .visits + 1 = rw now in
-            let n = openCount (rows (a .plan)) in (
-              omega (arith, branching.settled-few ground stands more line .0),
-              (
-                (t, percent, ground, second-stands, first .1),
-                rw
-                    second-count
-                    (omega (arith, rw first-count at room, pow-suc 2 (suc n), rw (← first .0) at (rule-visits n (terms t (job .budget) percent) (rows (a .plan)) (tallyOf u)))),
-              ),
-            )
+        after-first : ruled first (getD tally₁ 2 0) ≡ after
+        after-first =
+            rw (branching.line-lowest (given .ground) (given .stands) more, counted-visits, branching.marked-count (given .ground) (given .stands) more 0 .1) refl
 
-        module _ {r : Bool} (test : r ≡ backTest job b u) (stays : r ≡ false) {s : Bool} (worth : s ≡ worthTest job l v) where
-          -- what the rule has after the first of the two
-          after-first : tallyOf v ≡ rule (openCount (rows (a .plan))) (terms t (job .budget) percent) (set (rows (b .plan)) (lowestOpen (rows (b .plan))) 1) (record { held = tallyOf w .held; visits = suc (tallyOf w .visits) })
-          after-first =
-              rw
-              (branching.line-lowest ground stands more line, ← branching.taken-rows ground stands more line, ← take, ← counted-tally w now)
-              (first .0)
+        -- the cells are the same up to the end of the layer
+        first-same : Same l to (ownNodes l own (to - own) (passNodes l from (own - from) cells)) cells₂
+        first-same = rw enter at (first-left .same)
 
-          -- the second test is the rule's
-          worth-test : worthwhile (terms t (job .budget) percent) (set (rows (b .plan)) (lowestOpen (rows (b .plan))) 2) (tallyOf v .held) ≡ s
-          unfolding tallyOf leftOut
-          worth-test =
-              let top : l .bound ≡ upperBound t (set (rows (b .plan)) d 2) = rw left (branching.left-bound ground stands more line) in
-              rw
-              (branching.line-lowest ground stands more line)
-              (worth-is (first .1) percent (job .failing) (ground .failing) (set (rows (b .plan)) d 2) (job .budget) top worth)
+        -- the plan has one line more open
+        open-more : openCount (g .plan) ≡ suc (n - 1)
+        open-more =
+            let count = branching.marked-count (given .ground) (given .stands) more 0 in
+            count .0 ∙ ap suc (count .1)
 
-          -- a visit that ends after the branch with the line taken
-          pub visit-taken : s ≡ false → Ruled t percent job b w v
-          visit-taken one =
-              (rw first-count (after-first ∙ sym (rule-taken _ _ _ _ (back-test test ∙ stays) (rw (← after-first) (worth-test ∙ one)))), first .1)
+        -- its layer may be left
+        pub leave-ready : (1 ≤ n) × (n ≤ 20) × (length cells₂ ≡ 512) × (getD lines (n + 21) 0 ≤ getD lines (n - 1) 0) × ((i : ℕ) → i < getD lines (n - 1) 0 → getD (l .order) i 0 < 256)
+        leave-ready =
+            let few = branching.unsettled-few (given .ground) (given .stands) more in
+            let may = branching.leavable (given .ground) (given .stands) more in
+            (few .0, few .1, first-left .sizes .0, may .0, may .1)
 
-          module _ (two : s ≡ true) {x : Tally} (visited-too : Stands t ps hs ls ha la numbers job l → Fitted t v → Ruled t percent job l v x) where
-            -- what the rule has after the second
-            after-second : tallyOf x ≡ rule (openCount (rows (a .plan))) (terms t (job .budget) percent) (set (rows (b .plan)) (lowestOpen (rows (b .plan))) 2) (tallyOf v)
-            after-second =
-                rw
-                (branching.line-lowest ground stands more line, ← branching.left-rows ground stands more line (upperBound t (branching.leftPlan ground stands more line)), ← left, ← second-count)
-                (visited-too second-stands (first .1) .0)
+        module _ {lost left : ℕ} (loss : lost ≡ dropSum l losses own (to - own) (passNodes l from (own - from) cells)) (less : left ≡ bound - lost) where
+          left-bound : left ≡ upperBound (g .table) (set (g .plan) d 2)
+          left-bound = less ∙ rw (← loss) at (branching.lost-bound (given .ground) (given .stands) more (sizes .0) .1)
 
-            -- a visit that ends after both
-            pub visit-both : Ruled t percent job b w x
-            visit-both =
-                (rw first-count (rw after-first at after-second ∙ sym (rule-both _ _ _ _ (back-test test ∙ stays) (rw (← after-first) (worth-test ∙ two)))), visited-too second-stands (first .1) .1)
+          module _ {r : Bool} (test : r ≡ (eqb room 0 || ltb bound (getD tally₁ 0 0))) (stays : r ≡ false) {b : Bool} (worth : b ≡ ltb left (getD tally₂ 0 0)) where
+            -- the second test is the rule's
+            worth-test : worthwhile (parts g) (set (g .plan) (lowestOpen (g .plan)) 2) (after .held) ≡ not b
+            worth-test =
+                ap (λ (i : ℕ). worthwhile (parts g) (set (g .plan) i 2) (after .held)) (branching.line-lowest (given .ground) (given .stands) more) ∙ worth-is (rw after-first at (first-left .holds)) (g .percent) (given .ground .passing) (set (g .plan) d 2) left-bound worth
+
+            -- a visit that ends after the plan with the line taken
+            pub visit-taken : b ≡ true → {marks₃ : List ℕ} → marks₃ ≡ set marks₂ d 0 → Visited g l from (getD tally 2 0) cells marks cells₂ marks₃ best₂ tally₂
+            visit-taken one back =
+                let rules : ruled g (getD tally 2 0) ≡ after = rw open-more (rule-taken (n - 1) (parts g) (g .plan) found (back-test test ∙ stays) (worth-test ∙ ap not one)) in
+                record {
+                  sizes = first-left .sizes;
+                  holds = rw (rules, ← after-first) (first-left .holds);
+                  counts = rw (rules, ← after-first) (first-left .counts);
+                  kept = rw (back, first-left .kept, take) (branching.marks-back (given .ground) (given .stands) more 1);
+                  same = branching.same-before (given .ground) (given .stands) more (sizes .0) first-same;
+                }
+
+          -- ---------------------------------------------------------------------------
+          -- The line left
+
+          -- The scene of its visit
+          abbrev second : Scene
+          second = marked g d 2 (ruled first (getD tally₁ 2 0) .held)
+
+          module _ {cells₃ marks₃ : List ℕ} (leave : cells₃ ≡ leaveNodes (l .order) own (to - own) cells₂) (leaves : marks₃ ≡ set marks₂ d 2) where
+            second-marks : marks₃ ≡ set marks d 2
+            second-marks = leaves ∙ rw (first-left .kept, take) (set-set marks d 1 2)
+
+            second-long : length marks₃ ≡ 20
+            second-long = rw (second-marks, length-set marks d 2) (sizes .1)
+
+            second-given : Visitable second l losses lines cells₃ marks₃ best₂ tally₂ (n - 1) room left
+            second-given =
+                record {
+                  ground = marked-ground (given .ground) d 2 _;
+                  stands = rw (leave, second-marks, less, loss) (branching.left-stands (given .ground) (given .stands) more (sizes .0) first-same (first-left .sizes .0) _);
+                  holds = first-left .holds;
+                }
+
+            -- it may be visited after the other
+            pub second-ready : getD tally 2 0 + 2 ^ suc n ≤ 2 ^ 63 → Ready l losses lines cells₃ marks₃ best₂ tally₂ (n - 1) room left
+            second-ready fits =
+                let most = rule-visits (n - 1) (parts g) (set (g .plan) (lowestOpen (g .plan)) 1) (record { held = g .held; visits = suc (getD tally 2 0) }) in
+                let counts : getD tally₂ 2 0 ≡ after .visits = rw after-first at (first-left .counts) in
+                let long : length cells₃ ≡ 512 = rw leave (branching.left-long (given .ground) (given .stands) more (sizes .0) first-same (first-left .sizes .0)) in
+                ((long, second-long, first-left .sizes .1, first-left .sizes .2), ((second, second-given), room-second n (getD tally 2 0) (getD tally₂ 2 0) more fits (rw counts (omega (arith, most)))))
+
+            module _ {cells₄ marks₄ best₄ tally₄ : List ℕ} (visited-too : (g : Scene) → Visitable g l losses lines cells₃ marks₃ best₂ tally₂ (n - 1) room left → Visited g l to (getD tally₂ 2 0) cells₃ marks₃ cells₄ marks₄ best₄ tally₄) where
+              -- what its visit leaves
+              second-left : Visited second l to (getD tally₂ 2 0) cells₃ marks₃ cells₄ marks₄ best₄ tally₄
+              second-left = visited-too second second-given
+
+              -- the line may be marked again
+              pub open-ready : (n ≤ 20) × (getD lines (n + 42) 0 < 20) × (length marks₄ ≡ 20)
+              open-ready = mark-ready marks₄ (rw (second-left .kept) second-long)
+
+              -- what the rule has then
+              after-second : ruled second (getD tally₂ 2 0) ≡ rule (n - 1) (parts g) (set (g .plan) (lowestOpen (g .plan)) 2) after
+              after-second =
+                  rw
+                  (first-left .counts, after-first, branching.marked-count (given .ground) (given .stands) more 1 .1, branching.line-lowest (given .ground) (given .stands) more)
+                  refl
+
+              -- a visit that ends after both
+              pub visit-both : {r : Bool} → r ≡ (eqb room 0 || ltb bound (getD tally₁ 0 0)) → r ≡ false → {b : Bool} → b ≡ ltb left (getD tally₂ 0 0) → b ≡ false → {marks₅ : List ℕ} → marks₅ ≡ set marks₄ d 0 → Visited g l from (getD tally 2 0) cells marks cells₄ marks₅ best₄ tally₄
+              visit-both test stays worth two back =
+                  let rules : ruled g (getD tally 2 0) ≡ rule (n - 1) (parts g) (set (g .plan) (lowestOpen (g .plan)) 2) after = rw open-more (rule-both (n - 1) (parts g) (g .plan) found (back-test test ∙ stays) (worth-test test stays worth ∙ ap not two)) in
+                  record {
+                    sizes = second-left .sizes;
+                    holds = rw (rules, ← after-second) (second-left .holds);
+                    counts = rw (rules, ← after-second) (second-left .counts);
+                    kept = rw (back, second-left .kept, second-marks) (branching.marks-back (given .ground) (given .stands) more 2);
+                    same = branching.same-before-too (given .ground) (given .stands) more (sizes .0) first-same (first-left .sizes .0) (rw leave at (second-left .same));
+                  }

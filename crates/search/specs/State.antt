@@ -1,24 +1,24 @@
--- What the structs of a search hold: the plan visited, what is known of it, and the best plan so far with the visits.
-use Prim.Native.Nat.{ℕ, zero, suc, _+_, _≤_, _<_}
+-- What a search holds: the plan visited, what is known of it, and the best plan so far with the visits.
+use Prim.Native.Nat.{ℕ, zero, suc, _+_, _-_, _*_, _≤_, _<_, _^_}
 use mathlib.Core.Path.{_≡_}
-use mathlib.Core.Bool.{Bool, true, false, cond, not, _&&_, _||_}
-use mathlib.Core.List.{List, [], _∷_}
+use mathlib.Core.Bool.{Bool, _&&_, _||_}
+use mathlib.Core.List.{List, [], _∷_, _++_}
 use mathlib.Core.Option.{Option, none, some}
-use lib.ListN.{length, getD, set, take, drop}
+use lib.ListN.{length, getD, take, replicate}
 use lib.Dec.{eqb, ltb}
-use Rattle.diagram.specs.Table.{Table, Variable, choice, chance, tableOf, root, isChoice, choiceCount}
+use Rattle.diagram.specs.Table.{Table, Variable, choice, chance, Record, sequence, tableOf, root, choiceCount}
 use Rattle.diagram.specs.Score as scores
-use Rattle.diagram.specs.Plans as plans
-use Rattle.diagram.specs.Plans.{openTaken, upperBound}
+use Rattle.diagram.specs.Plans.{openTaken, openCount, cost, upperBound}
 use Rattle.diagram.specs.Ranking.{takesFirst}
 use Rattle.diagram.specs.Visits as visits
 use Rattle.diagram.specs.declared.plan.Plan.{Plan}
-use Rattle.scoring.specs.Value.{place, gap}
-use Rattle.scoring.specs.Passes.{marksByPosition, Marked}
+use Rattle.scoring.specs.Value.{place, gap, highArc, lowArc}
+use Rattle.scoring.specs.Passes.{over, byNode, Decoded}
 use Rattle.sweep.specs.Drops.{LargestFailing}
-use Rattle.search.specs.declared.branch.Branch.{Branch}
-use Rattle.search.specs.declared.job.Job.{Job}
-use Rattle.search.specs.declared.tally.Tally.{Tally}
+use Rattle.rule.specs.Rule.{terms, rule}
+use Rattle.layers.specs.Chains.{pick, joined}
+use Rattle.layers.specs.Layers.{Layers}
+use Rattle.layers.specs.Flows.{Layered, Line, Settles, Right, Same, rankSum, atSum}
 
 -- ---------------------------------------------------------------------------
 -- Plans
@@ -26,6 +26,10 @@ use Rattle.search.specs.declared.tally.Tally.{Tally}
 -- The marks of a plan that are in use
 abbrev pub rows : Plan → List ℕ
 rows p = take (p .count) (p .marks)
+
+-- A plan as an array of 20 marks, of which those after the last choice are 0
+abbrev pub padded : List ℕ → List ℕ
+padded p = p ++ replicate (20 - length p) 0
 
 -- The numbers of the open lines of the choices from number i on, the lowest first
 unfoldable pub openFrom : (i : ℕ) → List ℕ → List ℕ
@@ -44,96 +48,121 @@ choicePosition (choice ∷ vs) zero = 0
 choicePosition (choice ∷ vs) (suc i) = suc (choicePosition vs i)
 choicePosition (chance a b ∷ vs) i = suc (choicePosition vs i)
 
--- x is the position of choice number i of a table
-pub record Stand (t : Table) (i x : ℕ) : Type 0 where
-  pub within : x < length (t .variables)
-  pub chosen : isChoice (getD (t .variables) x (chance 0 1)) ≡ true
-  pub number : choiceCount (take x (t .variables)) ≡ i
+-- ---------------------------------------------------------------------------
+-- The ranks of open lines, by how many lines are unsettled when the line is the lowest of them
+
+-- What `line_ranks` writes for the first `count` lines of a list
+pub record Ranked (count : ℕ) (numbers places ends lines : List ℕ) : Type 0 where
+  pub first : getD lines count 0 ≡ 0
+  pub own : (i : ℕ) → i < count → getD lines (count - i + 21) 0 ≡ getD ends (getD places (getD numbers i 0) 0) 0
+  pub to : (i : ℕ) → i < count → getD lines (count - i - 1) 0 ≡ getD ends (getD places (getD numbers i 0) 0 + 1) 0
+  pub number : (i : ℕ) → i < count → getD lines (count - i + 42) 0 ≡ getD numbers i 0
+
+-- The numbers of the lowest n lines of which `lines` has the ranks
+unfoldable pub numbersFrom : (lines : List ℕ) → (n : ℕ) → List ℕ
+numbersFrom lines zero = []
+numbersFrom lines (suc n) = getD lines (suc n + 42) 0 ∷ numbersFrom lines n
 
 -- ---------------------------------------------------------------------------
--- Branches
+-- What is held
 
--- A plan with a mark changed
-abbrev pub marked : Plan → (line mark : ℕ) → Plan
-marked p i m = record { marks = set (p .marks) i m; count = p .count }
+-- What the best plan held has to do with the numbers held: where none is held, the least bound that is worth a visit is one more than the largest score that
+-- fails, and the room is 0; where one is held, they are its score and its room, it is within the budget, and its score passes
+pub record Holding (t : Table) (budget failing : ℕ) (q best tally : List ℕ) : Type 0 where
+  pub size : length q ≡ choiceCount (t .variables)
+  pub plan : best ≡ padded q
+  pub scored : getD tally 0 0 ≡ scores.score t q
+  pub room : getD tally 1 0 ≡ budget + 1 - cost q
+  pub within : cost q ≤ budget
+  pub passes : failing < scores.score t q
 
--- The branch with a line taken: one kit more, and the same bound
-unfoldable pub taken : Branch → (line : ℕ) → Branch
-taken b i =
-    record {
-      plan = marked (b .plan) i 1;
-      marks = b .marks;
-      cost = b .cost + 1;
-      bound = b .bound;
-      settled = b .settled + 1;
-    }
+pub record Holds (t : Table) (budget failing : ℕ) (held : Option (List ℕ)) (best tally : List ℕ) : Type 0 where
+  pub nothing : held ≡ none → (getD tally 0 0 ≡ failing + 1) × (getD tally 1 0 ≡ 0)
+  pub something : (q : List ℕ) → held ≡ some q → Holding t budget failing q best tally
 
--- The branch with a line at position x left: no kit more, and another bound
-unfoldable pub leftOut : Branch → (line x bound : ℕ) → Branch
-leftOut b i x y =
-    record {
-      plan = marked (b .plan) i 2;
-      marks = set (b .marks) x 2;
-      cost = b .cost;
-      bound = y;
-      settled = b .settled + 1;
-    }
-
--- What does not change during a search of table t
-pub record Ground (t : Table) (percent : ℕ) (at : List ℕ) (job : Job) : Type 0 where
-  pub some : 1 ≤ job .records
-  pub weight : job .weight ≡ gap t 0 (place t (root t))
-  pub failing : LargestFailing t percent (job .failing)
-  pub places : (i : ℕ) → i < choiceCount (t .variables) → Stand t i (getD at i 0)
-
--- What a branch holds: its marks by position are those of a plan that is its own but for open lines that it takes, its open lines are the last ones of
--- those that were open at the start, and its cost and its bound are its plan's
-pub record Stands (t : Table) (positions high low highArcs lowArcs numbers : List ℕ) (job : Job) (b : Branch) : Type 0 where
-  pub marked : (q : List ℕ) × (openTaken q ≡ openTaken (rows (b .plan))) × Marked t q (job .records) positions high low highArcs lowArcs (b .marks)
-  pub long : (length (b .plan .marks) ≡ 20) × (b .plan .count ≡ choiceCount (t .variables)) × (b .plan .count ≤ 20)
-  pub lines : drop (b .settled) (take (job .lines) numbers) ≡ openLines (rows (b .plan))
-  pub few : (b .settled ≤ job .lines) × (job .lines ≤ 20) × (job .lines ≤ length numbers)
-  pub cost : b .cost ≡ plans.cost (rows (b .plan))
-  pub bound : b .bound ≡ upperBound t (rows (b .plan))
+-- A plan's score, room and marks rank before another's
+unfoldable pub ranksOver : (score room : ℕ) → List ℕ → (score room : ℕ) → List ℕ → Bool
+ranksOver x c p y d q = ltb y x || eqb x y && (ltb d c || eqb c d && takesFirst p q)
 
 -- ---------------------------------------------------------------------------
--- Tallies
+-- A visit
 
--- The best plan held, if any
-unfoldable pub heldOf : Tally → Option (List ℕ)
-heldOf w = cond (w .held) (some (rows (w .best))) none
+-- The table and the plan that a search starts from, the percentage, the budget and the largest score that fails, the plan visited, and the best plan held
+pub record Scene : Type 0 where
+  pub table : Table
+  pub start : List ℕ
+  pub percent : ℕ
+  pub budget : ℕ
+  pub failing : ℕ
+  pub plan : List ℕ
+  pub held : Option (List ℕ)
 
--- A tally in the terms of the visit rule
-unfoldable pub tallyOf : Tally → visits.Tally
-tallyOf w = record { held = heldOf w; visits = w .visits }
+-- What does not change during a search
+pub record Ground (g : Scene) (l : Layers) (losses lines : List ℕ) : Type 0 where
+  pub passing : LargestFailing (g .table) (g .percent) (g .failing)
+  pub few : choiceCount (g .table .variables) ≤ 20
+  pub layered : Layered (g .table) (g .start) l losses
+  pub layer : (n : ℕ) → n < openCount (g .start) → Line (g .table) (g .start) l (getD lines (n + 1) 0) (getD lines (n + 22) 0) (getD lines n 0) (getD lines (n + 43) 0)
 
--- The score and the cost are those of the plan held, where one is held
-pub record Fitted (t : Table) (w : Tally) : Type 0 where
-  pub score : w .held ≡ true → w .score ≡ scores.score t (rows (w .best))
-  pub cost : w .held ≡ true → w .cost ≡ plans.cost (rows (w .best))
-  pub long : (length (w .best .marks) ≡ 20) × (w .best .count ≡ choiceCount (t .variables)) × (w .best .count ≤ 20)
+-- What is handed to a visit: the plan's marks, its open lines, its room and its bound, and cells that are right before the lowest open line's layer
+pub record Stands (g : Scene) (l : Layers) (lines cells marks : List ℕ) (unsettled room bound : ℕ) : Type 0 where
+  pub settles : Settles (g .start) (g .plan)
+  pub marked : marks ≡ padded (g .plan)
+  pub listed : openLines (g .plan) ≡ numbersFrom lines unsettled
+  pub few : unsettled ≤ openCount (g .start)
+  pub kits : room ≡ g .budget + 1 - cost (g .plan)
+  pub top : bound ≡ upperBound (g .table) (g .plan)
+  pub right : Right (g .table) (g .start) (openTaken (g .plan)) l (getD lines unsettled 0) cells
+  pub rooted : getD cells 1 0 ≡ gap (g .table) 0 (place (g .table) (root (g .table)))
 
--- A plan's score, cost and marks rank before another's
-unfoldable pub ranksOver : (score cost : ℕ) → List ℕ → (score cost : ℕ) → List ℕ → Bool
-ranksOver x c p y d q = ltb y x || eqb x y && (ltb c d || eqb c d && takesFirst p q)
+-- All that a visit is handed
+pub record Visitable (g : Scene) (l : Layers) (losses lines cells marks best tally : List ℕ) (unsettled room bound : ℕ) : Type 0 where
+  pub ground : Ground g l losses lines
+  pub stands : Stands g l lines cells marks unsettled room bound
+  pub holds : Holds (g .table) (g .budget) (g .failing) (g .held) best tally
 
--- The finished plan of a branch becomes the best held if none is held or it ranks before it
-unfoldable pub kept : Branch → Tally → Tally
-kept b w =
-    cond
-    (w .held && not (ranksOver (b .bound) (b .cost) (rows (b .plan)) (w .score) (w .cost) (rows (w .best))))
-    w
-    (record { held = true; best = b .plan; score = b .bound; cost = b .cost; visits = w .visits })
+-- What the rule leaves of a visit that finds so many visits counted
+abbrev pub ruled : Scene → (n : ℕ) → visits.Tally
+ruled g n =
+    rule (openCount (g .plan)) (terms (g .table) (g .budget) (g .percent)) (g .plan) (record { held = g .held; visits = n })
+
+-- What a visit leaves: what the rule leaves, the marks as they were, and the cells of the first `from` nodes as they were. The arrays keep their lengths.
+pub record Visited (g : Scene) (l : Layers) (from counted : ℕ) (cells marks cells′ marks′ best′ tally′ : List ℕ) : Type 0 where
+  pub sizes : (length cells′ ≡ 512) × (length best′ ≡ 20) × (length tally′ ≡ 3)
+  pub holds : Holds (g .table) (g .budget) (g .failing) (ruled g counted .held) best′ tally′
+  pub counts : getD tally′ 2 0 ≡ ruled g counted .visits
+  pub kept : marks′ ≡ marks
+  pub same : Same l from cells cells′
 
 -- ---------------------------------------------------------------------------
--- The start
+-- The start and the end of a search
 
--- The arrays hold the file's table, and the plan, its open lines and what does not change are as the search begins with them
-pub record Laid (s p : List ℕ) (percent : ℕ) (positions high low highArcs lowArcs numbers : List ℕ) (job : Job) (start : Plan) : Type 0 where
-  pub some : 1 ≤ job .records
-  pub weight : job .weight ≡ gap (tableOf s) 0 (place (tableOf s) (root (tableOf s)))
-  pub failing : LargestFailing (tableOf s) percent (job .failing)
-  pub marked : Marked (tableOf s) p (job .records) positions high low highArcs lowArcs (marksByPosition (tableOf s) p)
-  pub lines : take (job .lines) numbers ≡ openLines p
-  pub few : (job .lines ≤ 20) × (job .lines ≤ length numbers)
-  pub plan : (rows start ≡ p) × (length (start .marks) ≡ 20) × (start .count ≤ 20)
+-- The arrays hold the file's table, as `lay_out` leaves them
+pub record Arrays (s : List ℕ) (n weight : ℕ) (positions high low highArcs lowArcs : List ℕ) : Type 0 where
+  pub size : n ≡ length (tableOf s .records)
+  pub weighs : weight ≡ gap (tableOf s) 0 (place (tableOf s) (root (tableOf s)))
+  pub decoded : Decoded s positions high low
+  pub high-arcs : highArcs ≡ over (byNode (highArc (tableOf s)) n) (replicate 256 0)
+  pub low-arcs : lowArcs ≡ over (byNode (lowArc (tableOf s)) n) (replicate 256 0)
+
+-- `ends` has how many nodes of the order stand before each position: those before stand there, those from there to the next at it, and those after later
+pub record Ending (t : Table) (l : Layers) (ends : List ℕ) : Type 0 where
+  pub few : (x : ℕ) → getD ends x 0 < 256
+  pub rising : (x y : ℕ) → x ≤ y → y ≤ length (t .variables) → getD ends x 0 ≤ getD ends y 0
+  pub within : (x : ℕ) → x ≤ length (t .variables) → getD ends x 0 ≤ length (t .records)
+  pub before : (x j : ℕ) → x ≤ length (t .variables) → j < getD ends x 0 → place t (getD (l .order) j 0) < x
+  pub here : (x j : ℕ) → x < length (t .variables) → getD ends x 0 ≤ j → j < getD ends (x + 1) 0 → place t (getD (l .order) j 0) ≡ x
+  pub after : (x j : ℕ) → x ≤ length (t .variables) → getD ends x 0 ≤ j → j < length (t .records) → x ≤ place t (getD (l .order) j 0)
+  pub sums : (x : ℕ) → x < length (t .variables) → (f : ℕ → ℕ) → rankSum (λ j. f (getD (l .order) j 0)) (getD ends x 0) (getD ends (x + 1) 0 - getD ends x 0) ≡ atSum t f x (length (t .records))
+
+-- The arrays hold table t, laid out for a search from plan p, whose bound it is
+pub record Arranged (t : Table) (p : List ℕ) (weight bound : ℕ) (ends : List ℕ) (l : Layers) (losses : List ℕ) : Type 0 where
+  pub weighs : weight ≡ gap t 0 (place t (root t))
+  pub top : bound ≡ upperBound t p
+  pub layered : Layered t p l losses
+  pub ending : Ending t l ends
+
+-- What a search from plan p leaves is document 01's
+pub record Explored (t : Table) (percent budget failing : ℕ) (p best tally : List ℕ) : Type 0 where
+  pub holds : Holds t budget failing (visits.visited t budget percent p .held) best tally
+  pub counts : getD tally 2 0 ≡ visits.visited t budget percent p .visits

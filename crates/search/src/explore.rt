@@ -1,27 +1,30 @@
 // The search of an accepted table from a legal plan: everything that does not change is made once, then the plan is visited.
-use crate::branch::Branch;
-use crate::job::Job;
 use crate::lines::cost_of;
+use crate::lines::line_ranks;
 use crate::lines::open_lines;
-use crate::tally::Tally;
-use crate::tally::nothing;
 use crate::visit::visit;
+use diagram::Node;
 use diagram::Plan;
+use layers::order_arcs;
+use layers::order_records;
+use layers::pick_arcs;
+use layers::weigh_arcs;
+use layers::weigh_losses;
 use reading::record_count;
-use scoring::bound_of;
+use reading::variable_count;
 use scoring::lay_out;
 use scoring::marks_by_position;
+use scoring::value_of;
+use scoring::values_of;
 use sweep::by_choice;
 ghost use mathlib.Core.Path.{_≡_};
-ghost use Prim.Native.Nat.{ℕ, _≤_};
+ghost use Prim.Native.Nat.{ℕ, _+_, _-_, _≤_, _^_};
 ghost use lib.ListN.{length, getD};
-ghost use Rattle.diagram.specs.Table.{tableOf, root, choiceCount};
-ghost use Rattle.diagram.specs.Visits as visits;
+ghost use Rattle.diagram.specs.Table.{tableOf, choiceCount};
+ghost use Rattle.diagram.specs.Plans.{cost};
 ghost use Rattle.diagram.proofs.Checked.{Passed};
-ghost use Rattle.scoring.specs.Value.{place, gap};
-ghost use Rattle.scoring.specs.Passes.{Marked};
 ghost use Rattle.sweep.specs.Drops.{LargestFailing};
-ghost use Rattle.search.specs.State.{tallyOf, Fitted, Laid};
+ghost use Rattle.search.specs.State.{rows, Arrays, Arranged, Explored};
 
 // Every position by its own number, to be picked from.
 const POSITIONS: [u64; 64] = [
@@ -93,11 +96,19 @@ const POSITIONS: [u64; 64] = [
 
 // What is held and counted after the search of a file that has passed every check, from a plan that the checks 21 and 22 let
 // through; `failing` is the largest score that fails the percentage.
-pub fn explore(file: &[u8], plan: &[u8], budget: u32, failing: u64) -> Tally
+pub fn explore(
+    file: &[u8],
+    plan: &[u8],
+    budget: u32,
+    failing: u64,
+    best: &mut [u8; 20],
+    tally: &mut [u64; 3],
+)
     requires passed { ⌜ Passed (now file) ⌝ }
     requires plan { ⌜ (length (now plan) ≡ choiceCount (tableOf (now file) .variables)) × ((i : ℕ) → getD (now plan) i 0 ≤ 2) ⌝ }
-    requires failing { ⌜ ((percent : ℕ) × LargestFailing (tableOf (now file)) percent failing) ⌝ }
-    ensures { λ r. ⌜ ((percent : ℕ) → LargestFailing (tableOf (now (file .entry))) percent failing → (tallyOf r ≡ visits.visited (tableOf (now (file .entry))) budget percent (now (plan .entry))) × Fitted (tableOf (now (file .entry))) r) ⌝ }
+    requires failing { ⌜ (failing ≤ 2 ^ 56) × (budget ≤ 20) × ((percent : ℕ) × LargestFailing (tableOf (now file)) percent failing) ⌝ }
+    requires sizes { ⌜ (length (now best) ≡ 20) × (length (now tally) ≡ 3) ⌝ }
+    ensures { λ _. ⌜ ((percent : ℕ) → LargestFailing (tableOf (now (file .entry))) percent failing → Explored (tableOf (now (file .entry))) percent budget failing (now (plan .entry)) (now (best .exit)) (now (tally .exit))) ⌝ }
 {
     let n = record_count(file);
     let mut positions = [0u8; 256];
@@ -114,78 +125,164 @@ pub fn explore(file: &[u8], plan: &[u8], budget: u32, failing: u64) -> Tally
         &mut high_arcs,
         &mut low_arcs,
     );
-    let start = Plan::of_marks(plan);
-    let lines = open_lines(start);
-    let job = Job {
-        records: n,
-        weight,
-        lines: lines.count,
-        budget,
-        failing,
-    };
-    let numbers = lines.numbers;
-    first_visit(
+    arrange(
         file,
         plan,
+        budget,
+        failing,
+        best,
+        tally,
+        n,
+        weight,
         &positions,
         &high,
         &low,
         &high_arcs,
         &low_arcs,
-        &numbers,
-        job,
-        start,
     )
 }
 
-// The first visit, of the plan handed in. The arrays hold the file's table, and `start` and `numbers` the plan and its open
-// lines.
-fn first_visit(
+// Lays the table out for the search, and begins it. The arrays hold the file's table.
+fn arrange(
     file: &[u8],
     plan: &[u8],
+    budget: u32,
+    failing: u64,
+    best: &mut [u8; 20],
+    tally: &mut [u64; 3],
+    n: usize,
+    weight: u64,
     positions: &[u8; 256],
     high: &[u8; 256],
     low: &[u8; 256],
     high_arcs: &[u64; 256],
     low_arcs: &[u64; 256],
-    numbers: &[u8; 20],
-    job: Job,
-    start: Plan,
-) -> Tally
+)
     requires passed { ⌜ Passed (now file) ⌝ }
     requires plan { ⌜ (length (now plan) ≡ choiceCount (tableOf (now file) .variables)) × ((i : ℕ) → getD (now plan) i 0 ≤ 2) ⌝ }
-    requires laid { ⌜ ((percent : ℕ) × Laid (now file) (now plan) percent (now positions) (now high) (now low) (now «high_arcs») (now «low_arcs») (now numbers) job start) ⌝ }
-    ensures { λ r. ⌜ ((percent : ℕ) → Laid (now (file .entry)) (now (plan .entry)) percent (now (positions .entry)) (now (high .entry)) (now (low .entry)) (now («high_arcs» .entry)) (now («low_arcs» .entry)) (now (numbers .entry)) job start → (tallyOf r ≡ visits.visited (tableOf (now (file .entry))) (job .budget) percent (now (plan .entry))) × Fitted (tableOf (now (file .entry))) r) ⌝ }
+    requires failing { ⌜ (failing ≤ 2 ^ 56) × (budget ≤ 20) × ((percent : ℕ) × LargestFailing (tableOf (now file)) percent failing) ⌝ }
+    requires sizes { ⌜ (length (now best) ≡ 20) × (length (now tally) ≡ 3) ⌝ }
+    requires arrays { ⌜ Arrays (now file) n weight (now positions) (now high) (now low) (now «high_arcs») (now «low_arcs») ⌝ }
+    ensures { λ _. ⌜ ((percent : ℕ) → LargestFailing (tableOf (now (file .entry))) percent failing → Explored (tableOf (now (file .entry))) percent budget failing (now (plan .entry)) (now (best .exit)) (now (tally .exit))) ⌝ }
 {
-    let places = by_choice(file, &POSITIONS);
     let marks = marks_by_position(file, plan);
-    let bound = bound_of(
-        job.records,
+    let mut values = [0u64; 256];
+    values_of(
+        n,
         positions,
         high,
         low,
         high_arcs,
         low_arcs,
         &marks,
-        job.weight,
+        &mut values,
     );
-    let branch = Branch {
-        plan: start,
-        marks,
-        cost: cost_of(start),
-        bound,
-        settled: 0,
-    };
-    visit(
+    let mut order = [0u16; 512];
+    let mut ends = [0u16; 256];
+    order_records(
+        n,
+        variable_count(file) as usize,
         positions,
-        high,
+        &mut order,
+        &mut ends,
+    );
+    let mut sources = [0u16; 512];
+    let mut starts = [0u16; 256];
+    order_arcs(n, high, low, &order, &mut sources, &mut starts);
+    let mut weights = [0u64; 512];
+    weigh_arcs(n, positions, &marks, high_arcs, low_arcs, &mut weights);
+    let mut arcs = [0u64; 512];
+    pick_arcs(starts[n] as usize, &sources, &weights, &mut arcs);
+    let mut losses = [0u64; 256];
+    weigh_losses(
+        n,
+        positions,
+        &marks,
         low,
-        high_arcs,
         low_arcs,
-        &places,
-        numbers,
-        job,
-        branch,
-        nothing(start),
+        &values,
+        &order,
+        &mut losses,
+    );
+    let bound = weight * value_of(&values, Node::of_record(n - 1));
+    first_visit(
+        file,
+        plan,
+        budget,
+        failing,
+        best,
+        tally,
+        weight,
+        bound,
+        &ends,
+        &order,
+        &starts,
+        &sources,
+        &arcs,
+        &losses,
     )
+}
+
+// The first visit, of the plan handed in. The arrays hold the file's table, laid out for a search from the plan.
+fn first_visit(
+    file: &[u8],
+    plan: &[u8],
+    budget: u32,
+    failing: u64,
+    best: &mut [u8; 20],
+    tally: &mut [u64; 3],
+    weight: u64,
+    bound: u64,
+    ends: &[u16; 256],
+    order: &[u16; 512],
+    starts: &[u16; 256],
+    sources: &[u16; 512],
+    arcs: &[u64; 512],
+    losses: &[u64; 256],
+)
+    requires passed { ⌜ Passed (now file) ⌝ }
+    requires plan { ⌜ (length (now plan) ≡ choiceCount (tableOf (now file) .variables)) × ((i : ℕ) → getD (now plan) i 0 ≤ 2) ⌝ }
+    requires failing { ⌜ (failing ≤ 2 ^ 56) × (budget ≤ 20) × ((percent : ℕ) × LargestFailing (tableOf (now file)) percent failing) ⌝ }
+    requires sizes { ⌜ (length (now best) ≡ 20) × (length (now tally) ≡ 3) ⌝ }
+    requires arranged { ⌜ Arranged (tableOf (now file)) (now plan) weight bound (now ends) (record { order = now order; starts = now starts; sources = now sources; arcs = now arcs }) (now losses) ⌝ }
+    ensures { λ _. ⌜ ((percent : ℕ) → LargestFailing (tableOf (now (file .entry))) percent failing → Explored (tableOf (now (file .entry))) percent budget failing (now (plan .entry)) (now (best .exit)) (now (tally .exit))) ⌝ }
+{
+    let places = by_choice(file, &POSITIONS);
+    let start = Plan::of_marks(plan);
+    let open = open_lines(start);
+    let numbers = open.numbers;
+    let mut lines = [0u8; 64];
+    line_ranks(open.count, &numbers, &places, ends, &mut lines);
+    let mut cells = [0u64; 512];
+    cells[1] = weight;
+    let mut marks = start.marks;
+    tally[0] = failing + 1;
+    tally[1] = 0;
+    tally[2] = 0;
+    visit(
+        order,
+        starts,
+        sources,
+        arcs,
+        losses,
+        &lines,
+        &mut cells,
+        &mut marks,
+        best,
+        tally,
+        open.count,
+        room_of(budget, cost_of(start)),
+        bound,
+    )
+}
+
+// The kits that a plan leaves and one more, and 0 where it costs more than the budget.
+fn room_of(budget: u32, cost: u32) -> u64
+    requires { ⌜ budget ≤ 20 ⌝ }
+    ensures { λ r. ⌜ r ≡ budget + 1 - cost ⌝ }
+{
+    if budget < cost {
+        return 0;
+    }
+    (budget + 1 - cost) as u64
 }

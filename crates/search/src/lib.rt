@@ -1,15 +1,12 @@
 // The search: the first candidate in the ranking, found by the visits of document 01's rule.
 mod answer;
-mod branch;
 mod explore;
-mod job;
 mod lines;
 mod tally;
 mod visit;
 
 pub use answer::Finding;
 pub use answer::SearchAnswer;
-use diagram::Plan;
 use diagram::Refusal;
 use explore::explore;
 use sweep::RequestAnswer;
@@ -17,11 +14,10 @@ use sweep::accept;
 use sweep::largest_failing;
 ghost use mathlib.Core.Path.{_≡_};
 ghost use Prim.Native.Nat.{suc, _+_, _≤_, _^_};
-ghost use lib.ListN.{length};
+ghost use lib.ListN.{length, take};
 ghost use Rattle.diagram.specs.Plans.{openCount};
 ghost use Rattle.diagram.specs.Services.{searchOutcome, searchBuffer};
 ghost use Rattle.search.specs.Answer.{searchOf, visitsOf};
-ghost use Rattle.search.specs.State.{rows};
 
 // The score of the first candidate and the visits, with its marks written to the buffer, or the first reason for turning the
 // request away, which leaves the buffer as it was. With n open lines there are at most 2^(n+1) - 1 visits.
@@ -34,29 +30,37 @@ pub fn search(file: &[u8], plan: &[u8], budget: u32, percent: u32, out: &mut [u8
         RequestAnswer::Accepted(t) => t,
         RequestAnswer::Refused(r) => return SearchAnswer::Refused(r),
     };
-    let found = explore(file, plan, budget, largest_failing(percent, t.scale));
-    if !found.held {
+    let mut best = [0u8; 20];
+    let mut tally = [0u64; 3];
+    explore(
+        file,
+        plan,
+        budget,
+        largest_failing(percent, t.scale),
+        &mut best,
+        &mut tally,
+    );
+    if tally[1] == 0 {
         return SearchAnswer::Refused(Refusal {
             number: 32,
             place: 0,
         });
     }
-    let best = found.best;
-    write(best, out);
+    write(&best, out);
     SearchAnswer::Found(Finding {
-        score: found.score,
-        visits: found.visits,
+        score: tally[0],
+        visits: tally[2],
     })
 }
 
-// Writes a plan's marks to a buffer of one byte a choice.
-fn write(plan: Plan, out: &mut [u8])
-    requires { ⌜ (length (now out) ≡ plan .count) × (plan .count ≤ 20) ⌝ }
-    ensures { λ _. ⌜ now (out .exit) ≡ rows plan ⌝ }
+// Writes the first marks of a plan to a buffer of at most 20 bytes.
+fn write(best: &[u8; 20], out: &mut [u8])
+    requires { ⌜ (length (now best) ≡ 20) × (length (now out) ≤ 20) ⌝ }
+    ensures { λ _. ⌜ now (out .exit) ≡ take (length (now (out .entry))) (now (best .entry)) ⌝ }
 {
     let mut i = 0;
     while i < out.len() {
-        out[i] = plan.marks[i];
+        out[i] = best[i];
         i += 1;
     }
 }

@@ -1,12 +1,12 @@
-// The lines of a plan: those that are open, and what the taken ones cost.
+// The lines of a plan: those that are open, what the taken ones cost, and the ranks of the open ones' layers.
 use diagram::Choice;
 use diagram::Plan;
 use diagram::Position;
 ghost use mathlib.Core.Path.{_≡_};
-ghost use Prim.Native.Nat.{_≤_, _<_};
-ghost use lib.ListN.{length, getD, take};
+ghost use Prim.Native.Nat.{ℕ, _+_, _≤_, _<_};
+ghost use lib.ListN.{length, getD, set, take};
 ghost use Rattle.diagram.specs.Plans as plans;
-ghost use Rattle.search.specs.State.{rows, openLines};
+ghost use Rattle.search.specs.State.{rows, openLines, Ranked};
 
 // The numbers of the open lines, the lowest first.
 pub struct Lines {
@@ -50,19 +50,48 @@ pub fn cost_of(plan: Plan) -> u32
     cost
 }
 
-// The open line at a place of the list. `visit` has fewer than 20 settled lines where one is open.
-pub fn line_at(numbers: &[u8; 20], i: usize) -> Choice
-    requires { ⌜ i < 20 ⌝ }
-    ensures { λ r. ⌜ r .0 ≡ getD (now (numbers .entry)) i 0 ⌝ }
+// The ranks and the numbers of open lines, by how many lines are unsettled when the line is the lowest of them: at that place
+// the rank where its layer begins, 21 places on where its own nodes do, one place before where they end, and 42 places on its
+// number. The first layer begins at rank 0. `ends` has how many nodes stand before each position.
+pub fn line_ranks(
+    count: usize,
+    numbers: &[u8; 20],
+    places: &[u64; 20],
+    ends: &[u16; 256],
+    lines: &mut [u8; 64],
+)
+    requires { ⌜ (count ≤ 20) × (length (now lines) ≡ 64) × ((i : ℕ) → i < count → (getD (now numbers) i 0 < 20) × (getD (now places) (getD (now numbers) i 0) 0 < 64)) × ((x : ℕ) → getD (now ends) x 0 < 256) ⌝ }
+    ensures { λ _. ⌜ Ranked count (now (numbers .entry)) (now (places .entry)) (now (ends .entry)) (now (lines .exit)) ⌝ }
 {
-    Choice::new(numbers[i])
+    lines[count] = 0;
+    let mut i = 0;
+    while i < count {
+        let line = Choice::new(numbers[i]);
+        let at = position_at(places, line);
+        let x = at.number();
+        let unsettled = count - i;
+        lines[unsettled + 21] = ends[x] as u8;
+        lines[unsettled - 1] = ends[x + 1] as u8;
+        lines[unsettled + 42] = numbers[i];
+        i += 1;
+    }
 }
 
 // The position of a choice. The positions are a table's, and so below 64.
-pub fn position_at(places: &[u64; 20], choice: Choice) -> Position
+fn position_at(places: &[u64; 20], choice: Choice) -> Position
     requires { ⌜ (choice .0 < 20) × (getD (now places) (choice .0) 0 < 64) ⌝ }
     ensures { λ r. ⌜ r .0 ≡ getD (now (places .entry)) (choice .0) 0 ⌝ }
 {
     let i = choice.number();
     Position::new(places[i] as u8)
+}
+
+// Marks the lowest of the unsettled lines.
+pub fn mark_line(lines: &[u8; 64], marks: &mut [u8; 20], unsettled: usize, mark: u8)
+    requires { ⌜ (unsettled ≤ 20) × (getD (now lines) (unsettled + 42) 0 < 20) × (length (now marks) ≡ 20) ⌝ }
+    ensures { λ _. ⌜ now (marks .exit) ≡ set (now (marks .entry)) (getD (now (lines .entry)) (unsettled + 42) 0) mark ⌝ }
+{
+    let line = Choice::new(lines[unsettled + 42]);
+    let i = line.number();
+    marks[i] = mark;
 }

@@ -1,112 +1,91 @@
-// What a search holds: the best plan so far, if any, and the visits counted.
-use crate::branch::Branch;
+// What a search holds, in three numbers: the least bound that is worth a visit, the room of the best plan held, which is 0 where
+// none is held, and the visits. A plan's room is the kits that it leaves and one more, and 0 where it costs more than the budget.
+// The marks of the best plan held stand beside them.
 use diagram::Plan;
 ghost use mathlib.Core.Path.{_≡_};
-ghost use mathlib.Core.Bool.{false, _&&_, _||_};
+ghost use mathlib.Core.Bool.{cond, _||_};
 ghost use Prim.Native.Nat.{_+_, _≤_, _<_, _^_};
+ghost use lib.ListN.{length, getD, set, drop};
 ghost use lib.Dec.{eqb, ltb};
 ghost use Rattle.diagram.specs.Ranking.{takesFirst};
-ghost use Rattle.search.specs.State.{rows, ranksOver, kept};
-
-// The best plan held, with its score and its cost, where one is held, and the visits.
-pub struct Tally {
-    pub held: bool,
-    pub best: Plan,
-    pub score: u64,
-    pub cost: u32,
-    pub visits: u64,
-}
-
-// Nothing held and no visit counted; the plan only fills the place.
-pub fn nothing(plan: Plan) -> Tally
-    ensures { λ r. ⌜ r ≡ record { held = false; best = plan; score = 0; cost = 0; visits = 0 } ⌝ }
-{
-    Tally {
-        held: false,
-        best: plan,
-        score: 0,
-        cost: 0,
-        visits: 0,
-    }
-}
+ghost use Rattle.search.specs.State.{ranksOver};
 
 // One visit more. There is room: `visit` shows that a search makes at most 2^21 visits.
-pub fn counted(tally: Tally) -> Tally
-    requires { ⌜ tally .visits < 2 ^ 63 ⌝ }
-    ensures { λ r. ⌜ r ≡ record { held = tally .held; best = tally .best; score = tally .score; cost = tally .cost; visits = tally .visits + 1 } ⌝ }
+pub fn count(tally: &mut [u64; 3])
+    requires { ⌜ (length (now tally) ≡ 3) × (getD (now tally) 2 0 < 2 ^ 63) ⌝ }
+    ensures { λ _. ⌜ now (tally .exit) ≡ set (now (tally .entry)) 2 (getD (now (tally .entry)) 2 0 + 1) ⌝ }
 {
-    let best = tally.best;
-    let visits = tally.visits + 1;
-    Tally {
-        held: tally.held,
-        best,
-        score: tally.score,
-        cost: tally.cost,
-        visits,
+    let visits = tally[2];
+    tally[2] = visits + 1;
+}
+
+// Whether a visit goes back: the plan costs more than the budget, or its bound is less than any that is worth a visit.
+pub fn goes_back(tally: &[u64; 3], room: u64, bound: u64) -> bool
+    ensures { λ r. ⌜ r ≡ (eqb room 0 || ltb bound (getD (now (tally .entry)) 0 0)) ⌝ }
+{
+    if room == 0 {
+        return true;
+    }
+    is_beaten(tally, bound)
+}
+
+// Whether a bound is less than any that is worth a visit: it does not pass, or it is less than the score of the plan held.
+pub fn is_beaten(tally: &[u64; 3], bound: u64) -> bool
+    ensures { λ r. ⌜ r ≡ ltb bound (getD (now (tally .entry)) 0 0) ⌝ }
+{
+    bound < tally[0]
+}
+
+// The finished plan becomes the best held if it ranks before it, as it does where none is held.
+pub fn keep(marks: &[u8; 20], best: &mut [u8; 20], tally: &mut [u64; 3], room: u64, bound: u64)
+    requires { ⌜ (length (now marks) ≡ 20) × (length (now best) ≡ 20) × (length (now tally) ≡ 3) ⌝ }
+    ensures best { λ _. ⌜ now (best .exit) ≡ cond (ranksOver bound room (now (marks .entry)) (getD (now (tally .entry)) 0 0) (getD (now (tally .entry)) 1 0) (now (best .entry))) (now (marks .entry)) (now (best .entry)) ⌝ }
+    ensures tally { λ _. ⌜ now (tally .exit) ≡ cond (ranksOver bound room (now (marks .entry)) (getD (now (tally .entry)) 0 0) (getD (now (tally .entry)) 1 0) (now (best .entry))) (set (set (now (tally .entry)) 0 bound) 1 room) (now (tally .entry)) ⌝ }
+{
+    if !ranks_before(marks, best, tally, room, bound) {
+        return;
+    }
+    tally[0] = bound;
+    tally[1] = room;
+    copy(marks, best);
+}
+
+// Copies the marks of a plan.
+fn copy(marks: &[u8; 20], best: &mut [u8; 20])
+    requires { ⌜ (length (now marks) ≡ 20) × (length (now best) ≡ 20) ⌝ }
+    ensures { λ _. ⌜ now (best .exit) ≡ now (marks .entry) ⌝ }
+{
+    let mut i = 0;
+    while i < Plan::MOST {
+        best[i] = marks[i];
+        i += 1;
     }
 }
 
-// The finished plan becomes the best held if none is held or it ranks before it. Both are of the same table, and so have as
-// many lines.
-pub fn keep(branch: Branch, tally: Tally) -> Tally
-    requires { ⌜ (branch .plan .count ≡ tally .best .count) × (branch .plan .count ≤ 20) ⌝ }
-    ensures { λ r. ⌜ r ≡ kept branch tally ⌝ }
+// Whether a finished plan ranks before the one held: higher score, then lower cost, which is more room, then the one that takes
+// the first line where they differ.
+fn ranks_before(marks: &[u8; 20], best: &[u8; 20], tally: &[u64; 3], room: u64, bound: u64) -> bool
+    requires { ⌜ (length (now marks) ≡ 20) × (length (now best) ≡ 20) ⌝ }
+    ensures { λ r. ⌜ r ≡ ranksOver bound room (now (marks .entry)) (getD (now (tally .entry)) 0 0) (getD (now (tally .entry)) 1 0) (now (best .entry)) ⌝ }
 {
-    let plan = branch.plan;
-    let best = tally.best;
-    if tally.held
-        && !ranks_before(
-            branch.bound,
-            branch.cost,
-            plan,
-            tally.score,
-            tally.cost,
-            best,
-        )
-    {
-        return tally;
+    if bound != tally[0] {
+        return tally[0] < bound;
     }
-    Tally {
-        held: true,
-        best: plan,
-        score: branch.bound,
-        cost: branch.cost,
-        visits: tally.visits,
+    if room != tally[1] {
+        return tally[1] < room;
     }
-}
-
-// Whether the first of two plans ranks before the second: higher score, then lower cost, then the one that takes the first
-// line where they differ.
-fn ranks_before(
-    score: u64,
-    cost: u32,
-    plan: Plan,
-    other_score: u64,
-    other_cost: u32,
-    other: Plan,
-) -> bool
-    requires { ⌜ (plan .count ≡ other .count) × (plan .count ≤ 20) ⌝ }
-    ensures { λ r. ⌜ r ≡ ranksOver score cost (rows plan) «other_score» «other_cost» (rows other) ⌝ }
-{
-    if score != other_score {
-        return other_score < score;
-    }
-    if cost != other_cost {
-        return cost < other_cost;
-    }
-    takes_first(plan, other)
+    takes_first(marks, best)
 }
 
 // Whether the first of two plans takes the first line where they differ.
-fn takes_first(plan: Plan, other: Plan) -> bool
-    requires { ⌜ (plan .count ≡ other .count) × (plan .count ≤ 20) ⌝ }
-    ensures { λ r. ⌜ r ≡ takesFirst (rows plan) (rows other) ⌝ }
+fn takes_first(marks: &[u8; 20], best: &[u8; 20]) -> bool
+    requires { ⌜ (length (now marks) ≡ 20) × (length (now best) ≡ 20) ⌝ }
+    ensures { λ r. ⌜ r ≡ takesFirst (now (marks .entry)) (now (best .entry)) ⌝ }
 {
-    let n = plan.count;
     let mut i = 0;
-    while i < n {
-        let mark = plan.marks[i];
-        if mark != other.marks[i] {
+    while i < Plan::MOST {
+        let mark = marks[i];
+        if mark != best[i] {
             return mark == Plan::TAKEN;
         }
         i += 1;

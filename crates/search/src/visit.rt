@@ -1,83 +1,139 @@
 // The visits of document 01's rule, by recursion over the open lines.
-use crate::branch::Branch;
-use crate::branch::leave_line;
-use crate::branch::take_line;
-use crate::job::Job;
-use crate::job::goes_back;
-use crate::job::is_worthwhile;
-use crate::lines::line_at;
-use crate::tally::Tally;
-use crate::tally::counted;
+use crate::lines::mark_line;
+use crate::tally::count;
+use crate::tally::goes_back;
+use crate::tally::is_beaten;
 use crate::tally::keep;
+use diagram::Plan;
+use layers::enter_layer;
+use layers::leave_layer;
 ghost use mathlib.Core.Path.{_≡_};
-ghost use Prim.Native.Nat.{ℕ, suc, _+_, _≤_, _^_};
-ghost use Rattle.diagram.specs.Table.{Table};
-ghost use Rattle.diagram.specs.Plans.{openCount};
-ghost use Rattle.rule.specs.Rule as rules;
-ghost use Rattle.search.specs.State.{rows, tallyOf, Ground, Stands, Fitted};
+ghost use Prim.Native.Nat.{suc, _+_, _≤_, _^_};
+ghost use lib.ListN.{length, getD};
+ghost use Rattle.search.specs.State.{Scene, Visitable, Visited};
 
-// Visits a branch, and answers what is held and counted then. The arrays hold a table, as `lay_out` leaves them, `places` the
-// positions of its choices, and `numbers` the lines that were open at the start; `first_visit` hands in the first branch.
+// Visits a plan with so many unsettled lines, such room and such a bound, whose marks are handed in, and leaves what is held and
+// counted then; the marks are as before. The first six arrays hold a table laid out for the search, and the cells the path
+// weights of the nodes before the lowest open line's layer; `first_visit` hands in the first plan.
 pub fn visit(
-    positions: &[u8; 256],
-    high: &[u8; 256],
-    low: &[u8; 256],
-    high_arcs: &[u64; 256],
-    low_arcs: &[u64; 256],
-    places: &[u64; 20],
-    numbers: &[u8; 20],
-    job: Job,
-    branch: Branch,
-    tally: Tally,
-) -> Tally
-    requires { ⌜ ((t : Table) × (percent : ℕ) × Ground t percent (now places) job × Stands t (now positions) (now high) (now low) (now «high_arcs») (now «low_arcs») (now numbers) job branch × Fitted t tally) ⌝ }
-    requires room { ⌜ tally .visits + 2 ^ suc (openCount (rows (branch .plan))) ≤ 2 ^ 63 ⌝ }
-    ensures { λ r. ⌜ ((t : Table) (percent : ℕ) → Ground t percent (now (places .entry)) job → Stands t (now (positions .entry)) (now (high .entry)) (now (low .entry)) (now («high_arcs» .entry)) (now («low_arcs» .entry)) (now (numbers .entry)) job branch → Fitted t tally → (tallyOf r ≡ rules.rule (openCount (rows (branch .plan))) (rules.terms t (job .budget) percent) (rows (branch .plan)) (tallyOf tally)) × Fitted t r) ⌝ }
+    order: &[u16; 512],
+    starts: &[u16; 256],
+    sources: &[u16; 512],
+    arcs: &[u64; 512],
+    losses: &[u64; 256],
+    lines: &[u8; 64],
+    cells: &mut [u64; 512],
+    marks: &mut [u8; 20],
+    best: &mut [u8; 20],
+    tally: &mut [u64; 3],
+    unsettled: usize,
+    room: u64,
+    bound: u64,
+)
+    requires sizes { ⌜ (length (now cells) ≡ 512) × (length (now marks) ≡ 20) × (length (now best) ≡ 20) × (length (now tally) ≡ 3) ⌝ }
+    requires { ⌜ ((g : Scene) × Visitable g (record { order = now order; starts = now starts; sources = now sources; arcs = now arcs }) (now losses) (now lines) (now cells) (now marks) (now best) (now tally) unsettled room bound) ⌝ }
+    requires visits { ⌜ getD (now tally) 2 0 + 2 ^ suc unsettled ≤ 2 ^ 63 ⌝ }
+    ensures { λ _. ⌜ ((g : Scene) → Visitable g (record { order = now (order .entry); starts = now (starts .entry); sources = now (sources .entry); arcs = now (arcs .entry) }) (now (losses .entry)) (now (lines .entry)) (now (cells .entry)) (now (marks .entry)) (now (best .entry)) (now (tally .entry)) unsettled room bound → Visited g (record { order = now (order .entry); starts = now (starts .entry); sources = now (sources .entry); arcs = now (arcs .entry) }) (getD (now (lines .entry)) unsettled 0) (getD (now (tally .entry)) 2 0) (now (cells .entry)) (now (marks .entry)) (now (cells .exit)) (now (marks .exit)) (now (best .exit)) (now (tally .exit))) ⌝ }
 {
-    let now = counted(tally);
-    if goes_back(job, branch.cost, branch.bound, now.held, now.score) {
-        return now;
+    count(tally);
+    if goes_back(tally, room, bound) {
+        return;
     }
-    if branch.settled == job.lines {
-        return keep(branch, now);
+    if unsettled == 0 {
+        keep(marks, best, tally, room, bound);
+        return;
     }
-    let line = line_at(numbers, branch.settled);
-    let first = visit(
-        positions,
-        high,
-        low,
-        high_arcs,
-        low_arcs,
-        places,
-        numbers,
-        job,
-        take_line(branch, line),
-        now,
+    let drop = enter_layer(
+        order,
+        starts,
+        sources,
+        arcs,
+        losses,
+        lines,
+        cells,
+        unsettled,
     );
-    let left = leave_line(
-        positions,
-        high,
-        low,
-        high_arcs,
-        low_arcs,
-        places,
-        job,
-        branch,
-        line,
+    let next = unsettled - 1;
+    mark_line(lines, marks, unsettled, Plan::TAKEN);
+    visit_taken(
+        order,
+        starts,
+        sources,
+        arcs,
+        losses,
+        lines,
+        cells,
+        marks,
+        best,
+        tally,
+        next,
+        room - 1,
+        bound,
     );
-    if !is_worthwhile(job, left.bound, first.held, first.score) {
-        return first;
+    let left = bound - drop;
+    if is_beaten(tally, left) {
+        mark_line(lines, marks, unsettled, Plan::OPEN);
+        return;
+    }
+    leave_layer(order, lines, cells, unsettled);
+    mark_line(lines, marks, unsettled, Plan::LEFT);
+    visit(
+        order,
+        starts,
+        sources,
+        arcs,
+        losses,
+        lines,
+        cells,
+        marks,
+        best,
+        tally,
+        next,
+        room,
+        left,
+    );
+    mark_line(lines, marks, unsettled, Plan::OPEN);
+}
+
+// Visits a plan with one line more taken. One that costs more than the budget is only counted: it goes back, and there is no need
+// of a call.
+fn visit_taken(
+    order: &[u16; 512],
+    starts: &[u16; 256],
+    sources: &[u16; 512],
+    arcs: &[u64; 512],
+    losses: &[u64; 256],
+    lines: &[u8; 64],
+    cells: &mut [u64; 512],
+    marks: &mut [u8; 20],
+    best: &mut [u8; 20],
+    tally: &mut [u64; 3],
+    unsettled: usize,
+    room: u64,
+    bound: u64,
+)
+    requires sizes { ⌜ (length (now cells) ≡ 512) × (length (now marks) ≡ 20) × (length (now best) ≡ 20) × (length (now tally) ≡ 3) ⌝ }
+    requires { ⌜ ((g : Scene) × Visitable g (record { order = now order; starts = now starts; sources = now sources; arcs = now arcs }) (now losses) (now lines) (now cells) (now marks) (now best) (now tally) unsettled room bound) ⌝ }
+    requires visits { ⌜ getD (now tally) 2 0 + 2 ^ suc unsettled ≤ 2 ^ 63 ⌝ }
+    ensures { λ _. ⌜ ((g : Scene) → Visitable g (record { order = now (order .entry); starts = now (starts .entry); sources = now (sources .entry); arcs = now (arcs .entry) }) (now (losses .entry)) (now (lines .entry)) (now (cells .entry)) (now (marks .entry)) (now (best .entry)) (now (tally .entry)) unsettled room bound → Visited g (record { order = now (order .entry); starts = now (starts .entry); sources = now (sources .entry); arcs = now (arcs .entry) }) (getD (now (lines .entry)) unsettled 0) (getD (now (tally .entry)) 2 0) (now (cells .entry)) (now (marks .entry)) (now (cells .exit)) (now (marks .exit)) (now (best .exit)) (now (tally .exit))) ⌝ }
+{
+    if room == 0 {
+        count(tally);
+        return;
     }
     visit(
-        positions,
-        high,
-        low,
-        high_arcs,
-        low_arcs,
-        places,
-        numbers,
-        job,
-        left,
-        first,
-    )
+        order,
+        starts,
+        sources,
+        arcs,
+        losses,
+        lines,
+        cells,
+        marks,
+        best,
+        tally,
+        unsettled,
+        room,
+        bound,
+    );
 }

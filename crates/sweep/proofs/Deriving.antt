@@ -49,19 +49,19 @@ open-mark true m e = (refl, e)
 open-mark false m e = absurd (omega arith)
 
 -- a test that does not hold is false
-is-false : (b : Bool) → (b ≡ true → ⊥) → b ≡ false
+pub is-false : (b : Bool) → (b ≡ true → ⊥) → b ≡ false
 is-false true f = absurd (f refl)
 is-false false f = refl
 
 -- a mark 0 within a plan is an open line
-open-within : (p : List ℕ) (i : ℕ) → i < length p → getD p i 0 ≡ 0 → isOpen p i ≡ true
+pub open-within : (p : List ℕ) (i : ℕ) → i < length p → getD p i 0 ≡ 0 → isOpen p i ≡ true
 unfolding isOpen
 open-within [] i h e = absurd (omega arith)
 open-within (m ∷ p) zero h e = eq-eqb m 0 e
 open-within (m ∷ p) (suc i) h e = open-within p i (omega arith) e
 
 -- an open line has the mark 0
-open-zero : (p : List ℕ) (i : ℕ) → isOpen p i ≡ true → getD p i 0 ≡ 0
+pub open-zero : (p : List ℕ) (i : ℕ) → isOpen p i ≡ true → getD p i 0 ≡ 0
 unfolding isOpen
 open-zero [] i o = refl
 open-zero (m ∷ p) zero o = eqb-true m 0 o
@@ -78,7 +78,7 @@ over-bound new old b h g i =
     rw (← e, getD-append-add, getD-drop) (g (length new + (i - length new))))
 
 -- zeros are below every bound
-zeros-bound : (n b i : ℕ) → getD (replicate n 0) i 0 ≤ b
+pub zeros-bound : (n b i : ℕ) → getD (replicate n 0) i 0 ≤ b
 zeros-bound n b i =
     by-cases (decLt i n)
     (λ l. rw (getD-replicate {A = ℕ} n i 0 0 l) (omega arith))
@@ -120,10 +120,10 @@ module _ {t : Table} {p : List ℕ} {n : ℕ} {ps hs ls ha la ms : List ℕ} (m 
   position-is : (k : ℕ) → k < n → getD ps (k + 2) 0 ≡ recordAt (t .records) k .position
   position-is k h = rw (m .positions) (column-at (length (t .variables)) (λ (r : Record). r .position) (t .records) k (omega (arith, m .size)))
 
-  high-is : (k : ℕ) → k < n → getD hs (k + 2) 0 ≡ recordAt (t .records) k .hi
+  pub high-is : (k : ℕ) → k < n → getD hs (k + 2) 0 ≡ recordAt (t .records) k .hi
   high-is k h = rw (m .high) (column-at 0 (λ (r : Record). r .hi) (t .records) k (omega (arith, m .size)))
 
-  low-is : (k : ℕ) → k < n → getD ls (k + 2) 0 ≡ recordAt (t .records) k .lo
+  pub low-is : (k : ℕ) → k < n → getD ls (k + 2) 0 ≡ recordAt (t .records) k .lo
   low-is k h = rw (m .low) (column-at 0 (λ (r : Record). r .lo) (t .records) k (omega (arith, m .size)))
 
   -- the weights in force
@@ -207,7 +207,7 @@ module _ {t : Table} {p : List ℕ} {n : ℕ} {ps hs ls ha la ms : List ℕ} (m 
   -- Records that are open at a position
 
   -- a record's mark is 0 only where its choice is open
-  mark-open : (k : ℕ) → k < n → markAtNode ps ms k ≡ 0 → (isChoice (variableAt t k) ≡ true) × (isOpen p (choiceCount (take (recordAt (t .records) k .position) (t .variables))) ≡ true)
+  pub mark-open : (k : ℕ) → k < n → markAtNode ps ms k ≡ 0 → (isChoice (variableAt t k) ≡ true) × (isOpen p (choiceCount (take (recordAt (t .records) k .position) (t .variables))) ≡ true)
   unfolding variableAt
   mark-open k h e =
       let s = open-mark (isChoice (variableAt t k)) (markAt t p k) (sym (mark-at-node m k h) ∙ e) in
@@ -274,7 +274,7 @@ module _ {t : Table} {p : List ℕ} {n : ℕ} {ps hs ls ha la ms : List ℕ} (m 
   -- Bounds
 
   -- the top, the values and the drops are at most 2^56
-  value-fits : (u : List ℕ) (i : ℕ) → value t u i ≤ 2 ^ 56
+  pub value-fits : (u : List ℕ) (i : ℕ) → value t u i ≤ 2 ^ 56
   value-fits u i = omega (arith, value-le t (m .shares) u i, scale-drop-le (m .shares) (place t i), m .bounded)
 
   drop-fits : (x : ℕ) → derivativeAt t p x ≤ 2 ^ 56

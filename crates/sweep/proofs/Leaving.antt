@@ -56,7 +56,7 @@ openTaken-set (zero ∷ p) (suc i) = ap (λ (q : List ℕ). 1 ∷ q) (openTaken-
 openTaken-set (suc m ∷ p) (suc i) = ap (λ (q : List ℕ). suc m ∷ q) (openTaken-set p i)
 
 -- an open line is taken with all open lines
-open-taken : (p : List ℕ) (i : ℕ) → isOpen p i ≡ true → getD (openTaken p) i 0 ≡ 1
+pub open-taken : (p : List ℕ) (i : ℕ) → isOpen p i ≡ true → getD (openTaken p) i 0 ≡ 1
 unfolding openTaken isOpen
 open-taken [] i o = absurd (false≢true o)
 open-taken (zero ∷ p) zero o = refl
@@ -65,7 +65,7 @@ open-taken (zero ∷ p) (suc i) o = open-taken p i o
 open-taken (suc m ∷ p) (suc i) o = open-taken p i o
 
 -- a mark that is not 0 stands within the plan
-within-plan : (q : List ℕ) (i : ℕ) → getD q i 0 ≡ 1 → i < length q
+pub within-plan : (q : List ℕ) (i : ℕ) → getD q i 0 ≡ 1 → i < length q
 within-plan q i e = by-cases (decLt i (length q)) (λ l. l) (λ f. absurd (omega (arith, e, List·getD-eq-default q 0 {n = i} (omega (arith, f)))))
 
 -- the choices before a choice are fewer than those before any later position
@@ -109,21 +109,21 @@ shares-same (chance a b) m m′ e = (refl, refl)
 -- Weights at a record
 
 -- at a choice that is taken all weight is on the hi arc
-weights-taken : (t : Table) (u : List ℕ) (k : ℕ) → isChoice (variableAt t k) ≡ true → isTaken (markAt t u k) ≡ true → (highWeight t u k ≡ highArc t k) × (lowWeight t u k ≡ 0)
+pub weights-taken : (t : Table) (u : List ℕ) (k : ℕ) → isChoice (variableAt t k) ≡ true → isTaken (markAt t u k) ≡ true → (highWeight t u k ≡ highArc t k) × (lowWeight t u k ≡ 0)
 unfolding highWeight lowWeight highArc
 weights-taken t u k c e =
     let s = shares-taken (variableAt t k) (markAt t u k) c e in
     (rw (s .0) refl, rw (s .1) (omega arith))
 
 -- at a choice that is left all weight is on the lo arc
-weights-left : (t : Table) (u : List ℕ) (k : ℕ) → isChoice (variableAt t k) ≡ true → isTaken (markAt t u k) ≡ false → (highWeight t u k ≡ 0) × (lowWeight t u k ≡ lowArc t k)
+pub weights-left : (t : Table) (u : List ℕ) (k : ℕ) → isChoice (variableAt t k) ≡ true → isTaken (markAt t u k) ≡ false → (highWeight t u k ≡ 0) × (lowWeight t u k ≡ lowArc t k)
 unfolding highWeight lowWeight lowArc
 weights-left t u k c e =
     let s = shares-left (variableAt t k) (markAt t u k) c e in
     (rw (s .0) (omega arith), rw (s .1) refl)
 
 -- plans with the same mark at a choice have the same weights
-weights-same : (t : Table) (u u′ : List ℕ) (k : ℕ) → (isChoice (variableAt t k) ≡ true → markAt t u k ≡ markAt t u′ k) → (highWeight t u k ≡ highWeight t u′ k) × (lowWeight t u k ≡ lowWeight t u′ k)
+pub weights-same : (t : Table) (u u′ : List ℕ) (k : ℕ) → (isChoice (variableAt t k) ≡ true → markAt t u k ≡ markAt t u′ k) → (highWeight t u k ≡ highWeight t u′ k) × (lowWeight t u k ≡ lowWeight t u′ k)
 unfolding highWeight lowWeight
 weights-same t u u′ k e =
     let s = shares-same (variableAt t k) (markAt t u k) (markAt t u′ k) e in

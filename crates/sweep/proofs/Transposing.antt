@@ -79,7 +79,7 @@ unfolding handOn
 hand-on-length a m ws = rw (added-length, added-length)
 
 -- only the weights of the children change
-hand-on-other : (a : Arcs) (m : ℕ) (ws : List ℕ) (i : ℕ) → getD (a .high) m 0 < i → getD (a .low) m 0 < i → getD (handOn a m ws) i 0 ≡ getD ws i 0
+pub hand-on-other : (a : Arcs) (m : ℕ) (ws : List ℕ) (i : ℕ) → getD (a .high) m 0 < i → getD (a .low) m 0 < i → getD (handOn a m ws) i 0 ≡ getD ws i 0
 unfolding handOn
 hand-on-other a m ws i h l = added-other _ _ _ i l ∙ added-other ws _ _ i h
 

@@ -1,39 +1,45 @@
 -- `search` meets its contract: a refused request leaves the buffer, and so does one whose visits hold nothing; of any other the plan held is written, with its
 -- score and the visits. Assumes nothing.
 use native.Mathlib.Omega.{arith}
-use mathlib.Core.Path.{_≡_, refl, sym, _∙_}
+use mathlib.Core.Path.{_≡_, refl}
 use lib.ListN.{length}
 use borrow.Author.Needs.{needs}
-use borrow.Author.Tests.{not-true, not-false}
 use Rattle.diagram.specs.Table.{tableOf, scale}
-use Rattle.diagram.specs.Visits as visits
 use Rattle.diagram.specs.Services.{answered}
-use Rattle.reading.proofs.Accepted.{passed-scale}
+use Rattle.reading.proofs.Accepted.{passed-scale, passed-choices}
 use Rattle.sweep.specs.Drops.{LargestFailing}
 use Rattle.sweep.specs.Request.{requestOutcome}
 use Rattle.sweep.proofs.Requesting.{Proper, numbers, refused-request, accepted-request, accepted-proper, accepted-scale}
-use Rattle.search.specs.State.{tallyOf, Fitted}
-use Rattle.search.proofs.Answering.{search-turned, search-32, search-found}
+use Rattle.search.specs.State.{Explored}
+use Rattle.search.proofs.Answering.{failing-fits, search-turned, search-32, held-long, search-found}
 use Rattle.search.proofs.search.Statement.{statement}
 use Rattle.search.proofs.search.Tie as tie
 
 -- what is known of a request that the checks let through
-request-answered : (c : tie.After-known-told) → let a = c .before .before .before .before .before .before .before .args in requestOutcome (a .file .now) (a .plan .now) (a .budget) (a .percent) (length (a .out .now)) ≡ answered (numbers (c .before .t .given .0 .0))
+request-answered : (c : tie.After-known-told) →
+    let a = c .before .before .before .before .before .before .before .args in
+    requestOutcome (a .file .now) (a .plan .now) (a .budget) (a .percent) (length (a .out .now)) ≡ answered (numbers (c .before .t .given .0 .0))
 request-answered c = accepted-request _ _ _ _ _ (c .before .before .before .accept .ensures) _ (c .before .t .given .1)
 
-request-proper : (c : tie.After-known-told) → let a = c .before .before .before .before .before .before .before .args in Proper (a .file .now) (a .plan .now) (a .budget) (a .percent) (length (a .out .now))
+request-proper : (c : tie.After-known-told) →
+    let a = c .before .before .before .before .before .before .before .args in
+    Proper (a .file .now) (a .plan .now) (a .budget) (a .percent) (length (a .out .now))
 request-proper c = accepted-proper _ _ _ _ _ (c .before .before .before .accept .ensures) _ (c .before .t .given .1)
 
 request-scale : (c : tie.After-known-told) → c .before .t .given .0 .0 .scale ≡ scale (tableOf (c .before .before .before .before .before .before .before .args .file .now))
 request-scale c = accepted-scale _ _ _ _ _ (c .before .before .before .accept .ensures) _ (c .before .t .given .1)
 
 -- the largest score that fails
-failing : (c : tie.After-largest-failing) → let a = c .before .before .before .before .before .before .before .before .args in LargestFailing (tableOf (a .file .now)) (a .percent) (c .largest-failing .result)
+failing : (c : tie.After-largest-failing) →
+    let a = c .before .before .before .before .before .before .before .before .args in
+    LargestFailing (tableOf (a .file .now)) (a .percent) (c .largest-failing .result)
 failing c = c .largest-failing .ensures _ (request-scale (c .before))
 
 -- what the visits hold and have counted
-visited : (c : tie.After-explore) → let a = c .before .before .before .before .before .before .before .before .before .args in (tallyOf (c .explore .result) ≡ visits.visited (tableOf (a .file .now)) (a .budget) (a .percent) (a .plan .now)) × Fitted (tableOf (a .file .now)) (c .explore .result)
-visited c = c .explore .ensures _ (failing (c .before))
+explored : (c : tie.After-explore) →
+    let a = c .before .before .before .before .before .before .before .before .before .before .before .args in
+    Explored (tableOf (a .file .now)) (a .percent) (a .budget) (c .before .before .before .largest-failing .result) (a .plan .now) (c .explore .last .1 .1 .1 .1 .0) (c .explore .last .1 .1 .1 .1 .1 .0)
+explored c = c .explore .ensures _ (failing (c .before .before .before))
 
 accept-requires : tie.Need-accept-requires
 accept-requires c κs = search needs
@@ -56,26 +62,39 @@ largest-failing-requires c κs =
 
 explore-requires : tie.Need-explore-requires
 explore-requires c κs =
-    let ok = request-proper (c .before) in
-    (ok .passed, ((ok .long, ok .legal), (_, failing c)))
+    let ok = request-proper (c .before .before .before) in
+    let fails = failing (c .before .before) in (
+      ok .passed,
+      (
+        (ok .long, ok .legal),
+        ((failing-fits _ _ _ fails (ok .percents) (passed-scale (ok .passed)), ok .budgets, (_, fails)), (refl, refl)),
+      ),
+    )
+
+array-read-if1 : tie.Need-array-read-if1
+array-read-if1 c = search needs
 
 returns-2 : tie.Need-returns-2
 returns-2 c =
-    let told = visited (c .before .before) in
-    search-32 _ _ _ _ _ _ (request-answered (c .before .before .before .before)) (told .0) (told .1) (not-true _ (c .if1 .taken)) refl refl
+    search-32 _ _ _ _ _ _ (request-answered (c .before .before .before .before .before)) (explored (c .before)) (c .if1 .taken) refl refl
 
 write-requires : tie.Need-write-requires
 write-requires c κs =
-    let fitted = visited (c .before .before .before .before) .1 in
-    (request-proper (c .before .before .before .before .before .before) .sized ∙ sym (fitted .long .1), fitted .long .2)
+    let ok = request-proper (c .before .before .before .before .before .before .before) in
+    (held-long _ _ (c .before .before .before .before .before .before .before .before .before .before .before .before .before .before .args .out .now) _ _ _ (request-answered (c .before .before .before .before .before .before .before)) (explored (c .before .before .before)) (c .before .before .if1 .left), omega (arith, ok .sized, passed-choices (ok .passed)))
+
+array-read-t15 : tie.Need-array-read-t15
+array-read-t15 c = search needs
+
+array-read-t29 : tie.Need-array-read-t29
+array-read-t29 c = search needs
 
 same-length : tie.Need-same-length
 same-length c = search needs
 
 returns-3 : tie.Need-returns-3
 returns-3 c =
-    let told = visited (c .before .before .before .before .before .before .before) in
-    search-found _ _ _ _ _ _ (request-answered (c .before .before .before .before .before .before .before .before .before)) (told .0) (told .1) (not-false _ (c .before .before .before .before .before .if1 .left)) (c .before .before .write .ensures) refl refl
+    search-found _ _ _ _ _ _ (request-answered (c .before .before .before .before .before .before .before .before .before .before)) (explored (c .before .before .before .before .before .before)) (c .before .before .before .before .before .if1 .left) (c .before .before .write .ensures) refl refl
 
 pub search-spec : {M : Type 1} → statement M
 search-spec =
@@ -87,7 +106,10 @@ search-spec =
     returns
     largest-failing-requires
     explore-requires
+    array-read-if1
     returns-2
     write-requires
+    array-read-t15
+    array-read-t29
     same-length
     returns-3)

@@ -2,18 +2,17 @@
 -- number of places left. Assumes nothing.
 use Prim.Native.Nat.{_-_, _≤_}
 use native.Mathlib.Omega.{arith}
-use mathlib.Core.Path.{_≡_, refl, _∙_}
+use mathlib.Core.Path.{_≡_, refl}
 use lib.ListN.{length, take, length-set}
-use borrow.Author.Needs.{needs}
 use Rattle.search.proofs.Rows.{written-more, written-all}
 use Rattle.search.proofs.write.Statement.{statement}
 use Rattle.search.proofs.write.Tie as tie
 
 abbrev Inv-loop : tie.InvT-loop
-Inv-loop out₀ plan i₀ out i = (length out ≡ length out₀) × (i ≤ length out₀) × (take i out ≡ take i (plan .marks))
+Inv-loop best out₀ i₀ out i = (length out ≡ length out₀) × (i ≤ length out₀) × (take i out ≡ take i best)
 
 abbrev μ-loop : tie.MeasureT-loop
-μ-loop out₀ plan i₀ out i = length out₀ - i
+μ-loop best out₀ i₀ out i = length out₀ - i
 
 loop-holds : tie.Need-loop-holds Inv-loop μ-loop
 loop-holds c = (refl, omega arith, refl)
@@ -33,14 +32,13 @@ loop-less c = omega arith
 loop-again : tie.Need-loop-again Inv-loop μ-loop
 loop-again c =
     let at = c .before .before in
-    let sized : length (at .before .args .t1 .marks) ≡ 20 = search needs in
-    (simp length-set (at .loop .inv .0), omega arith, written-more _ (at .loop .out) (at .loop .i) (at .loop .inv .2) refl (omega arith) (omega arith))
+    (simp length-set (at .loop .inv .0), omega arith, written-more (at .before .args .best .now) (at .loop .out) (at .loop .i) (at .loop .inv .2) refl (omega arith) (omega arith))
 
 same-length : tie.Need-same-length Inv-loop μ-loop
 same-length c = c .before .loop .inv .0
 
 returns : tie.Need-returns Inv-loop μ-loop
-returns c = written-all _ _ (c .before .loop .i) (c .before .loop .inv .2) _ (c .before .loop .inv .0 ∙ c .before .before .pre .0) (omega arith) (omega arith)
+returns c = written-all _ _ (c .before .loop .i) (c .before .loop .inv .2) _ (c .before .loop .inv .0) (omega arith) (omega arith)
 
 pub write-spec : {M : Type 1} → statement M
 write-spec =

@@ -1,12 +1,8 @@
--- `explore` meets its contract: what it makes once is what the first visit asks for. Assumes nothing.
-use Prim.Native.Nat.{ℕ}
+-- `explore` meets its contract: what it reads is what `arrange` asks for. Assumes nothing.
 use mathlib.Core.Path.{_≡_, refl, sym, _∙_}
 use lib.ListN.{length}
 use Rattle.diagram.specs.Table.{tableOf}
 use Rattle.reading.proofs.Accepted.{records-length}
-use Rattle.sweep.specs.Drops.{LargestFailing}
-use Rattle.search.specs.State.{Laid}
-use Rattle.search.proofs.Starting.{laid-out}
 use borrow.Author.Needs.{needs}
 use Rattle.search.proofs.explore.explore.Statement.{statement}
 use Rattle.search.proofs.explore.explore.Tie as tie
@@ -21,41 +17,31 @@ record-count-requires c κs = search needs
 lay-out-requires : tie.Need-lay-out-requires
 lay-out-requires c κs = ((c .before .before .before .before .before .before .before .before .pre .0, size (c .before .before .before .before .before)), (refl, refl, refl, refl, refl))
 
-of-marks-requires : tie.Need-of-marks-requires
-of-marks-requires c κs = search needs
-
-open-lines-requires : tie.Need-open-lines-requires
-open-lines-requires c κs = search needs
-
--- what is made once is what the first visit asks for
-laid : (c : tie.After-open-lines) (percent : ℕ) →
-    let start = c .before .before .before .before .before .before .before .before .before .before .before .args in
-    let arrays = c .before .before .lay-out .last .1 .1 in
-    let lines = c .open-lines .result in
-    LargestFailing (tableOf (start .file .now)) percent (start .failing) → Laid (start .file .now) (start .plan .now) percent (arrays .0) (arrays .1 .0) (arrays .1 .1 .0) (arrays .1 .1 .1 .0) (arrays .1 .1 .1 .1 .0) (lines .numbers) (record { records = c .before .before .before .before .before .before .before .before .record-count .result; weight = c .before .before .lay-out .result; lines = lines .count; budget = start .budget; failing = start .failing }) (c .before .of-marks .result)
-laid c percent passing =
-    let start = c .before .before .before .before .before .before .before .before .before .before .before in
-    let arrays = c .before .before .lay-out .ensures in
-    let plan = c .before .of-marks .ensures in
-    let twenty : length (c .open-lines .result .numbers) ≡ 20 = search needs in
-    laid-out (start .pre .0) (size (c .before .before .before .before .before .before .before .before)) (start .pre .1 .0 .0) (start .pre .1 .0 .1) _ _ (arrays .0) (arrays .1 .0) (arrays .1 .1 .0) (arrays .1 .1 .1) (plan .0) (plan .1) (c .open-lines .ensures) twenty passing
-
-first-visit-requires : tie.Need-first-visit-requires
-first-visit-requires c κs =
-    let start = c .before .before .before .before .before .before .before .before .before .before .before .before .before .before .before .before .before .before in
-    let failing = start .pre .1 .1 in
-    (start .pre .0, (start .pre .1 .0, (failing .0, laid (c .before .before .before .before .before .before .before) (failing .0) (failing .1))))
+arrange-requires : tie.Need-arrange-requires
+arrange-requires c κs =
+    let pre = c .before .before .before .before .before .before .before .before .before .before .before .before .before .before .before .before .pre in
+    let laid = c .before .before .before .before .before .before .before .lay-out .ensures in (
+      pre .0,
+      (
+        pre .1 .0,
+        (
+          pre .1 .1 .0,
+          (
+            pre .1 .1 .1,
+            record {
+              size = size (c .before .before .before .before .before .before .before .before .before .before .before .before .before);
+              weighs = laid .1 .1 .1;
+              decoded = laid .0;
+              high-arcs = laid .1 .0;
+              low-arcs = laid .1 .1 .0;
+            },
+          ),
+        ),
+      ),
+    )
 
 returns : tie.Need-returns
-returns c percent passing = c .first-visit .ensures percent (laid (c .before .before .before .before .before .before .before .before) percent passing)
+returns c = search needs
 
 pub explore-spec : {M : Type 1} → statement M
-explore-spec =
-    tie.close
-    (tie.spec
-    record-count-requires
-    lay-out-requires
-    of-marks-requires
-    open-lines-requires
-    first-visit-requires
-    returns)
+explore-spec = tie.close (tie.spec record-count-requires lay-out-requires arrange-requires returns)

@@ -1,14 +1,14 @@
--- `first_visit` meets its contract: the arrays, the plan's branch and an empty tally are what a visit asks for, and what the visit answers is document
--- 01's search. Assumes nothing.
+-- `first_visit` meets its contract: the layers of the plan's open lines are what a visit asks for, and what the visit leaves is document 01's search.
+-- Assumes nothing.
 use native.Mathlib.Omega.{arith}
-use mathlib.Core.Path.{_≡_}
-use lib.ListN.{replicate}
+use mathlib.Core.Path.{_≡_, refl, _∙_}
+use lib.ListN.{length, replicate}
 use Rattle.diagram.specs.Table.{sequence, tableOf, choiceCount}
 use Rattle.reading.proofs.Counting.{variables-length}
 use Rattle.reading.proofs.Accepted.{passed-variables, passed-choices}
 use Rattle.scoring.specs.Passes.{over}
 use Rattle.search.specs.State.{choicePosition}
-use Rattle.search.proofs.Starting.{own-numbers, first-ground, first-marked, first-stands, first-fitted, first-room, first-visited}
+use Rattle.search.proofs.Starting.{own-numbers, handed-in, firstScene, nothing-held, Ready, first-few, first-visitable, first-room, first-explored}
 use borrow.Author.Needs.{needs}
 use Rattle.search.proofs.explore.first_visit.Statement.{statement}
 use Rattle.search.proofs.explore.first_visit.Tie as tie
@@ -19,63 +19,99 @@ by-choice-requires c κs =
     (omega (arith, passed-variables passed, variables-length (c .before .before .before .args .file .now)), passed-choices passed)
 
 -- the places are the choices' positions
-placed : (c : tie.After-by-choice) →
+chosen : (c : tie.After-by-choice) →
     let t = tableOf (c .before .before .before .before .args .file .now) in
     c .by-choice .result ≡ over (sequence (choicePosition (t .variables)) 0 (choiceCount (t .variables))) (replicate 20 0)
 unfolding sequence
-placed c =
+chosen c =
     let start = c .before .before .before .before in
     let t = tableOf (start .args .file .now) in
     c .by-choice .ensures (choicePosition (t .variables)) (own-numbers t (omega (arith, passed-variables (start .pre .0))))
 
-marks-by-position-requires : tie.Need-marks-by-position-requires
-marks-by-position-requires c κs = search needs
+of-marks-requires : tie.Need-of-marks-requires
+of-marks-requires c κs = search needs
 
-bound-of-requires : tie.Need-bound-of-requires
-bound-of-requires c κs =
+open-lines-requires : tie.Need-open-lines-requires
+open-lines-requires c κs = search needs
+
+-- what is made of the plan
+ready : (c : tie.After-open-lines) →
+    let a = c .before .before .before .before .before .before .args in
+    Ready (a .file .now) (a .plan .now) (c .before .of-marks .result) (c .open-lines .result .count) (c .open-lines .result .numbers) (c .before .before .by-choice .result)
+ready c =
     let start = c .before .before .before .before .before .before in
-    let laid = start .pre .1 .1 .1 in
-    (_, _, first-marked (start .pre .0) laid (c .before .marks-by-position .ensures), laid .weight, laid .some)
+    let plan = c .before .of-marks .ensures in
+    let few = passed-choices (start .pre .0) in
+    let twenty : length (c .open-lines .result .numbers) ≡ 20 = search needs in
+    record {
+      handed = handed-in _ _ (omega (arith, start .pre .1 .0 .0)) (plan .0) (plan .1);
+      listed = c .open-lines .ensures;
+      twenty = twenty;
+      chosen = chosen (c .before .before);
+    }
+
+line-ranks-requires : tie.Need-line-ranks-requires
+line-ranks-requires c κs =
+    let start = c .before .before .before .before .before .before .before .before .before .before in
+    let r = ready (c .before .before .before .before) in
+    (r .listed .0, refl, first-few (start .pre .0) (start .pre .1 .0 .0) r, start .pre .1 .1 .1 .1 .ending .few)
+
+array-write-cells : tie.Need-array-write-cells
+array-write-cells c = search needs
+
+add-tally : tie.Need-add-tally
+add-tally c = search needs
+
+element-write-tally : tie.Need-element-write-tally
+element-write-tally c = search needs
+
+element-write-tally-2 : tie.Need-element-write-tally-2
+element-write-tally-2 c = search needs
+
+element-write-tally-3 : tie.Need-element-write-tally-3
+element-write-tally-3 c = search needs
 
 cost-of-requires : tie.Need-cost-of-requires
 cost-of-requires c κs = search needs
 
-nothing-requires : tie.Need-nothing-requires
-nothing-requires c κs = search needs
+room-of-requires : tie.Need-room-of-requires
+room-of-requires c κs = c .before .before .before .before .before .before .before .before .before .before .before .before .before .before .before .before .before .before .pre .1 .1 .0 .1
 
 visit-requires : tie.Need-visit-requires
 visit-requires c κs =
-    let start = c .before .before .before .before .before .before .before .before .before .before in
+    let start = c .before .before .before .before .before .before .before .before .before .before .before .before .before .before .before .before .before .before .before in
     let passed = start .pre .0 in
-    let laid = start .pre .1 .1 .1 in
-    let marks = c .before .before .before .before .before .marks-by-position .ensures in
-    let bound = c .before .before .before .bound-of .ensures _ _ (first-marked passed laid marks) (laid .weight) in (
-      (
-        _,
-        _,
-        first-ground passed laid (placed (c .before .before .before .before .before .before)),
-        first-stands passed laid marks (c .before .before .cost-of .ensures) bound,
-        first-fitted passed laid (c .nothing .ensures),
-      ),
-      first-room passed laid (c .nothing .ensures),
-    )
+    let r = ready (c .before .before .before .before .before .before .before .before .before .before .before .before .before) in
+    let sizes = start .pre .1 .1 .1 .0 in
+    let held = nothing-held (tableOf (start .args .file .now)) (start .args .budget) (start .args .failing) (start .args .best .now) (start .args .tally .now) (sizes .1) refl refl refl refl in
+    let failing = start .pre .1 .1 .0 .2 in
+    let visitable = first-visitable passed (start .pre .1 .0 .0) r (start .pre .1 .1 .1 .1) (c .before .before .before .before .before .before .before .before .line-ranks .ensures) refl refl (c .room-of .ensures ∙ rw (c .before .cost-of .ensures) refl) (failing .1) (held .0) in
+    ((refl, r .handed .2, sizes .0, held .1), ((firstScene _ _ (failing .0) _ _, visitable), first-room passed (start .pre .1 .0 .0) r (held .2)))
 
 returns : tie.Need-returns
-returns c percent laid =
-    let passed = c .before .before .before .before .before .before .before .before .before .before .before .pre .0 in
-    let marks = c .before .before .before .before .before .before .marks-by-position .ensures in
-    let bound = c .before .before .before .before .bound-of .ensures _ _ (first-marked passed laid marks) (laid .weight) in
-    let visited = c .visit .ensures _ percent (first-ground passed laid (placed (c .before .before .before .before .before .before .before))) (first-stands passed laid marks (c .before .before .before .cost-of .ensures) bound) (first-fitted passed laid (c .before .nothing .ensures)) in
-    (first-visited passed laid (c .before .nothing .ensures) _ (visited .0), visited .1)
+returns c percent passing =
+    let start = c .before .before .before .before .before .before .before .before .before .before .before .before .before .before .before .before .before .before .before .before in
+    let passed = start .pre .0 in
+    let r = ready (c .before .before .before .before .before .before .before .before .before .before .before .before .before .before) in
+    let sizes = start .pre .1 .1 .1 .0 in
+    let held = nothing-held (tableOf (start .args .file .now)) (start .args .budget) (start .args .failing) (start .args .best .now) (start .args .tally .now) (sizes .1) refl refl refl refl in
+    let visitable = first-visitable passed (start .pre .1 .0 .0) r (start .pre .1 .1 .1 .1) (c .before .before .before .before .before .before .before .before .before .line-ranks .ensures) refl refl (c .before .room-of .ensures ∙ rw (c .before .before .cost-of .ensures) refl) passing (held .0) in
+    first-explored passed (held .2) (c .visit .ensures _ visitable)
 
 pub first-visit-spec : {M : Type 1} → statement M
 first-visit-spec =
     tie.close
     (tie.spec
     by-choice-requires
-    marks-by-position-requires
-    bound-of-requires
+    of-marks-requires
+    open-lines-requires
+    line-ranks-requires
+    array-write-cells
+    add-tally
+    element-write-tally
+    element-write-tally-2
+    element-write-tally-3
     cost-of-requires
-    nothing-requires
+    room-of-requires
     visit-requires
     returns)

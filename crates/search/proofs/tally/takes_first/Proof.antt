@@ -3,20 +3,17 @@
 use Prim.Native.Nat.{_-_, _≤_}
 use native.Mathlib.Omega.{arith}
 use mathlib.Core.Path.{_≡_, refl, sym, _∙_}
-use lib.ListN.{length, drop}
-use borrow.Author.Needs.{needs}
+use lib.ListN.{drop}
 use Rattle.diagram.specs.Ranking.{takesFirst}
-use Rattle.search.specs.State.{rows}
 use Rattle.search.proofs.Tallying.{first-here, first-next, first-end}
 use Rattle.search.proofs.tally.takes_first.Statement.{statement}
 use Rattle.search.proofs.tally.takes_first.Tie as tie
 
 abbrev Inv-loop : tie.InvT-loop
-Inv-loop plan other n i₀ i =
-    (i ≤ n) × (takesFirst (rows plan) (rows other) ≡ takesFirst (drop i (rows plan)) (drop i (rows other)))
+Inv-loop marks best i₀ i = (i ≤ 20) × (takesFirst marks best ≡ takesFirst (drop i marks) (drop i best))
 
 abbrev μ-loop : tie.MeasureT-loop
-μ-loop plan other n i₀ i = n - i
+μ-loop marks best i₀ i = 20 - i
 
 loop-holds : tie.Need-loop-holds Inv-loop μ-loop
 loop-holds c = (omega arith, refl)
@@ -30,10 +27,8 @@ element-copy-out-if1 c = omega arith
 returns : tie.Need-returns Inv-loop μ-loop
 returns c =
     let at = c .before .before .before .before in
-    let p = at .before .args .t1 in
-    let q = at .before .args .t2 in
-    let long : (length (p .marks) ≡ 20) × (length (q .marks) ≡ 20) = search needs in
-    sym (at .loop .inv .1 ∙ first-here p q (at .before .pre .0) (at .before .pre .1) long (at .loop .i) (omega arith) refl refl (c .if1 .taken) refl)
+    let a = at .before .args in
+    sym (at .loop .inv .1 ∙ first-here (a .marks .now) (a .best .now) (at .loop .i) (omega arith) (omega arith) refl refl (c .if1 .taken) refl)
 
 add-i : tie.Need-add-i Inv-loop μ-loop
 add-i c = omega arith
@@ -44,18 +39,13 @@ loop-less c = omega arith
 loop-again : tie.Need-loop-again Inv-loop μ-loop
 loop-again c =
     let at = c .before .before .before .before in
-    let p = at .before .args .t1 in
-    let q = at .before .args .t2 in
-    let long : (length (p .marks) ≡ 20) × (length (q .marks) ≡ 20) = search needs in
-    (omega arith, at .loop .inv .1 ∙ first-next p q (at .before .pre .0) (at .before .pre .1) long (at .loop .i) (omega arith) refl refl (c .if1 .left))
+    let a = at .before .args in
+    (omega arith, at .loop .inv .1 ∙ first-next (a .marks .now) (a .best .now) (at .loop .i) (omega arith) (omega arith) refl refl (c .if1 .left))
 
 returns-2 : tie.Need-returns-2 Inv-loop μ-loop
 returns-2 c =
-    let at = c .before in
-    let p = at .before .args .t1 in
-    let q = at .before .args .t2 in
-    let long : (length (p .marks) ≡ 20) × (length (q .marks) ≡ 20) = search needs in
-    sym (at .loop .inv .1 ∙ first-end p q (at .before .pre .0) (at .before .pre .1) long (at .loop .i) (omega arith))
+    let a = c .before .before .args in
+    sym (c .before .loop .inv .1 ∙ first-end (a .marks .now) (a .best .now) (c .before .loop .i) (omega arith))
 
 pub takes-first-spec : {M : Type 1} → statement M
 takes-first-spec =

@@ -1,0 +1,574 @@
+-- A visit's walk over the layer of its lowest open line: the cells hand on the path weights under the plan visited, the sums fit, and what leaving the line
+-- loses is its drop. With the line taken the cells are right as they stand, with it left once what its nodes hand on goes by their lo arcs.
+-- Assumes of the layout that it is the table's (`Layered`), and of the layer that it is the line's (`Line`).
+use Prim.Native.Nat.{ℕ, zero, suc, _+_, _-_, _*_, _≤_, _<_, _^_}
+use native.Mathlib.Nat.{add-zero, eq-or-lt-of-le, le-of-lt, le-of-eq}
+use native.Mathlib.Decide.{decLt}
+use native.Mathlib.Omega.{arith}
+use mathlib.Core.Path.{_≡_, refl, ap, ap₂, sym, _∙_}
+use mathlib.Core.Bool.{Bool, true, false, cond, false≢true}
+use mathlib.Core.Logic.{⊎-elim, by-cases}
+use mathlib.Core.List.{List, [], _∷_}
+use lib.ListN.{length, getD, set, take, drop, length-set}
+use lib.Seq.{getD-set-same, getD-set-other}
+use lib.Dec.{eqb}
+use borrow.Author.Tests.{eqb-true, eq-eqb}
+use Rattle.diagram.specs.Table.{Variable, choice, chance, Table, recordAt, root, isChoice, choiceCount, scale}
+use Rattle.diagram.specs.Plans.{openTaken, isOpen, upperBound, derivative}
+use Rattle.diagram.specs.Visits.{lowestOpen}
+use Rattle.diagram.specs.Checks.{positionOf}
+use Rattle.diagram.proofs.Every.{both, and-true-both}
+use Rattle.diagram.proofs.FirstVariable.{score-le-scale}
+use Rattle.scoring.specs.Value.{place, marksFrom, valueFrom, value, gap, variableAt, markAt, highShare, lowShare, highWeight, lowWeight, highArc, lowArc}
+use Rattle.scoring.specs.Passes.{markOf, highInForce}
+use Rattle.sweep.specs.Drops.{isOf, shortfall}
+use Rattle.sweep.proofs.Leaving.{openTaken-set, open-taken, within-plan, choices-later, weights-taken, weights-left, weights-same, mark-number}
+use Rattle.sweep.proofs.Deriving.{is-false, open-within, open-zero}
+use Rattle.layers.specs.Weights.{pathWeight, into, weightSum}
+use Rattle.layers.specs.Layers.{Layers, inflow, put, passNode, passNodes, ownNode, ownNodes, dropSum, leaveNode, leaveNodes, Enterable}
+use Rattle.layers.specs.Flows.{lowKept, highAt, lowAt, Layered, rankSum, atSum, Line, Settles, Right, Same}
+use Rattle.layers.proofs.Weights.{weight-step, weight-local, weight-fits, drop-weights}
+
+-- the same cells for more nodes are the same for fewer
+pub same-fewer : {l : Layers} {i j : ℕ} {cells cells′ : List ℕ} → i ≤ j → Same l j cells cells′ → Same l i cells cells′
+same-fewer h same =
+    record { high = λ k b. same .high k (omega arith); low = λ k b. same .low k (omega arith); root = same .root }
+
+pub same-trans : {l : Layers} {i : ℕ} {a b c : List ℕ} → Same l i a b → Same l i b c → Same l i a c
+same-trans ab bc =
+    record {
+      high = λ j h. bc .high j h ∙ ab .high j h;
+      low = λ j h. bc .low j h ∙ ab .low j h;
+      root = bc .root ∙ ab .root;
+    }
+
+-- cells that are the same hand on the same
+pub right-same : {t : Table} {s u : List ℕ} {l : Layers} {i : ℕ} {cells cells′ : List ℕ} → Same l i cells cells′ → Right t s u l i cells → Right t s u l i cells′
+right-same {t} {s} {u} {l} {i} {cells} {cells′} same right =
+    record {
+      high = λ j k h e.
+          let cell : getD cells′ (k + 2) 0 ≡ getD cells (k + 2) 0 = rw e at (same .high j h) in
+          rw cell (right .high j k h e);
+      low = λ j k h e.
+          let place : k + 2 + 256 ≡ k + 258 = omega arith in
+          let cell : getD cells′ (k + 258) 0 ≡ getD cells (k + 258) 0 = rw (e, place) at (same .low j h) in
+          rw cell (right .low j k h e);
+    }
+
+-- cells that are right for more nodes are right for fewer
+right-fewer : {t : Table} {s u : List ℕ} {l : Layers} {i j : ℕ} {cells : List ℕ} → i ≤ j → Right t s u l j cells → Right t s u l i cells
+right-fewer h right = record { high = λ z k b. right .high z k (omega arith); low = λ z k b. right .low z k (omega arith) }
+
+-- ---------------------------------------------------------------------------
+-- Cells
+
+-- the node at rank j
+abbrev node : Layers → (j : ℕ) → ℕ
+node l j = getD (l .order) j 0
+
+-- what the two cells of a node hold once they are written, and the others
+module _ (cells : List ℕ) (m x y : ℕ) where
+  put-other : (c : ℕ) → (c ≡ m → ⊥) → (c ≡ m + 256 → ⊥) → getD (put cells m x y) c 0 ≡ getD cells c 0
+  put-other c f g = getD-set-other (set cells m x) (m + 256) c y 0 g ∙ getD-set-other cells m c x 0 f
+
+  module _ (long : length cells ≡ 512) (few : m < 256) where
+    put-high : getD (put cells m x y) m 0 ≡ x
+    put-high = getD-set-other (set cells m x) (m + 256) m y 0 (omega arith) ∙ getD-set-same cells m x 0 (omega arith)
+
+    put-low : getD (put cells m x y) (m + 256) 0 ≡ y
+    put-low = getD-set-same (set cells m x) (m + 256) y 0 (simp length-set (omega arith))
+
+-- of the cells, those of n nodes from rank i on are written, and no others
+record Wrote (t : Table) (l : Layers) (i n : ℕ) (cells cells′ : List ℕ) : Type 0 where
+  long : length cells′ ≡ 512
+  root : getD cells′ 1 0 ≡ getD cells 1 0
+  high : (j : ℕ) → j < length (t .records) → (i ≤ j → j < i + n → ⊥) → getD cells′ (node l j) 0 ≡ getD cells (node l j) 0
+  low : (j : ℕ) → j < length (t .records) → (i ≤ j → j < i + n → ⊥) → getD cells′ (node l j + 256) 0 ≡ getD cells (node l j + 256) 0
+
+wrote-start : {t : Table} {l : Layers} {i : ℕ} {cells : List ℕ} → length cells ≡ 512 → Wrote t l i 0 cells cells
+wrote-start long = record { long = long; root = refl; high = λ j h f. refl; low = λ j h f. refl }
+
+-- what is written comes after the first i nodes
+wrote-same : {t : Table} {l : Layers} {i n : ℕ} {cells cells′ : List ℕ} → i ≤ length (t .records) → Wrote t l i n cells cells′ → Same l i cells cells′
+wrote-same h w =
+    record {
+      high = λ j b. w .high j (omega arith) (λ p q. omega arith);
+      low = λ j b. w .low j (omega arith) (λ p q. omega arith);
+      root = w .root;
+    }
+
+-- ---------------------------------------------------------------------------
+-- What comes to a node
+
+-- numbers that agree where they count
+cond-same : (x c y z : ℕ) → (x ≡ c → y ≡ z) → cond (eqb x c) y 0 ≡ cond (eqb x c) z 0
+cond-same x c y z f = go (eqb x c) refl
+  where
+    go : (b : Bool) → eqb x c ≡ b → cond b y 0 ≡ cond b z 0
+    go true e = f (eqb-true x c e)
+    go false e = refl
+
+into-same : (high low a b a′ b′ : ℕ → ℕ) (c n : ℕ) → ((k : ℕ) → k < n → high k ≡ c → a k ≡ a′ k) → ((k : ℕ) → k < n → low k ≡ c → b k ≡ b′ k) → into high low a b c n ≡ into high low a′ b′ c n
+unfolding into
+into-same high low a b a′ b′ c zero f g = refl
+into-same high low a b a′ b′ c (suc n) f g =
+    let rest = into-same high low a b a′ b′ c n (λ k h. f k (omega arith)) (λ k h. g k (omega arith)) in
+    let first = cond-same (high n) c (a n) (a′ n) (f n (omega arith)) in
+    let second = cond-same (low n) c (b n) (b′ n) (g n (omega arith)) in
+    omega (arith, rest, first, second)
+
+-- the position of record k's node
+place-node : (t : Table) (k : ℕ) → place t (k + 2) ≡ recordAt (t .records) k .position
+unfolding place positionOf
+place-node t k =
+    let e : k + 2 ≡ suc (suc k) = omega arith in
+    rw e refl
+
+module _ {t : Table} {s : List ℕ} {l : Layers} {losses : List ℕ} (layered : Layered t s l losses) where
+  -- the cells at other ranks stay as they are
+  rank-other : (c : List ℕ) (x y i j : ℕ) → i < length (t .records) → j < length (t .records) → (j ≡ i → ⊥) → (getD (put c (node l i) x y) (node l j) 0 ≡ getD c (node l j) 0) × (getD (put c (node l i) x y) (node l j + 256) 0 ≡ getD c (node l j + 256) 0)
+  rank-other c x y i j h b f =
+      let here = layered .sized .nodes i h in
+      let there = layered .sized .nodes j b in
+      let apart : node l j ≡ node l i → ⊥ = λ e. f (layered .distinct j i b h e) in
+      (put-other c (node l i) x y (node l j) apart (omega arith), put-other c (node l i) x y (node l j + 256) (omega arith) (λ e. apart (omega arith)))
+
+  -- one more node's cells
+  wrote-next : {i n : ℕ} {cells c : List ℕ} (x y : ℕ) → i + n < length (t .records) → Wrote t l i n cells c → Wrote t l i (suc n) cells (put c (node l (i + n)) x y)
+  wrote-next {i} {n} {cells} {c} x y h w =
+      let here = layered .sized .nodes (i + n) h in
+      record {
+        long = simp length-set (w .long);
+        root = put-other c (node l (i + n)) x y 1 (omega arith) (omega arith) ∙ w .root;
+        high = λ j b f. rank-other c x y (i + n) j h b (λ e. f (omega arith) (omega arith)) .0 ∙ w .high j b (λ p q. f p (omega arith));
+        low = λ j b f. rank-other c x y (i + n) j h b (λ e. f (omega arith) (omega arith)) .1 ∙ w .low j b (λ p q. f p (omega arith));
+      }
+
+  -- n nodes from rank i on are turned from their hi arcs to their lo arcs
+  record Turned (i n : ℕ) (cells cells′ : List ℕ) : Type 0 where
+    wrote : Wrote t l i n cells cells′
+    high : (j : ℕ) → i ≤ j → j < i + n → getD cells′ (node l j) 0 ≡ 0
+    low : (j : ℕ) → i ≤ j → j < i + n → getD cells′ (node l j + 256) 0 ≡ getD cells (node l j) 0
+
+  turned : (i n : ℕ) {cells : List ℕ} → i + n ≤ length (t .records) → length cells ≡ 512 → Turned i n cells (leaveNodes (l .order) i n cells)
+  unfolding leaveNodes leaveNode
+  turned i zero h long =
+      record { wrote = wrote-start long; high = λ j a b. absurd (omega arith); low = λ j a b. absurd (omega arith) }
+  turned i (suc n) {cells} h long =
+      let w = turned i n (omega arith) long in
+      let z = i + n in
+      let c = leaveNodes (l .order) i n cells in
+      let y = getD c (node l z) 0 in
+      let here = layered .sized .nodes z (omega arith) in
+      record {
+        wrote = wrote-next 0 y (omega arith) (w .wrote);
+        high = λ j a b. ⊎-elim
+            (λ q. rw q (put-high c (node l z) 0 y (w .wrote .long) (here .1)))
+            (λ q. rank-other c 0 y z j (omega arith) (omega arith) (omega arith) .0 ∙ w .high j a q)
+            (eq-or-lt-of-le {n = j} {m = z} (omega arith));
+        low = λ j a b. ⊎-elim
+            (λ q. rw q (put-low c (node l z) 0 y (w .wrote .long) (here .1) ∙ w .wrote .high z (omega arith) (λ a b. omega arith)))
+            (λ q. rank-other c 0 y z j (omega arith) (omega arith) (omega arith) .1 ∙ w .low j a q)
+            (eq-or-lt-of-le {n = j} {m = z} (omega arith));
+      }
+
+  module _ (u : List ℕ) where
+    -- where the cells of the first i nodes are right, the path weight of the node at rank i comes to it
+    inflow-weight : {i : ℕ} {cells : List ℕ} → i < length (t .records) → getD cells 1 0 ≡ gap t 0 (place t (root t)) → Right t s u l i cells → inflow l cells i ≡ pathWeight t u (node l i)
+    unfolding place
+    inflow-weight {i} {cells} h rooted right =
+        let here = layered .sized .nodes i h in
+        let k = layered .nodes i h in
+        let terms =
+        into-same (λ k. recordAt (t .records) k .hi) (λ k. recordAt (t .records) k .lo) _ _ _ _ (node l i) (length (t .records))
+        (λ k b e.
+        let before : recordAt (t .records) k .position < place t (node l i) = rw e at (layered .formed .hiLater k) in
+        let rank = layered .earlier i k h b before in
+        right .high (rank .0) k (rank .1) (rank .2))
+        (λ k b e.
+        let before : recordAt (t .records) k .position < place t (node l i) = rw e at (layered .formed .loLater k) in
+        let rank = layered .earlier i k h b before in
+        right .low (rank .0) k (rank .1) (rank .2)) in
+        layered .inflows cells i h
+        ∙ rw (rooted, terms)
+        (sym (weight-step t (layered .formed) (layered .shares) (layered .sized .few) u (node l i) (here .0) (omega (arith, k .1, k .2))))
+
+    -- the cells of one node more are right
+    right-next : {i j : ℕ} {cells : List ℕ} (x y : ℕ) → i < length (t .records) → j ≤ suc i → length cells ≡ 512 → ((k : ℕ) → node l i ≡ k + 2 → (x * highAt t s k ≡ pathWeight t u (k + 2) * highWeight t u k) × (y * lowAt t s k ≡ pathWeight t u (k + 2) * lowWeight t u k)) → Right t s u l i cells → Right t s u l j (put cells (node l i) x y)
+    right-next {i} {j} {cells} x y h b long new right =
+        let here = layered .sized .nodes i h in
+        record {
+          high = λ z k m e. ⊎-elim
+              (λ q.
+              let at : node l i ≡ k + 2 = rw q at e in
+              let cell : getD (put cells (node l i) x y) (k + 2) 0 ≡ x = rw (← at) (put-high cells (node l i) x y long (here .1)) in
+              rw cell (new k at .0))
+              (λ q.
+              let cell : getD (put cells (node l i) x y) (k + 2) 0 ≡ getD cells (k + 2) 0 = rw (← e) (rank-other cells x y i z h (omega arith) (omega arith) .0) in
+              rw cell (right .high z k q e))
+              (eq-or-lt-of-le {n = z} {m = i} (omega arith));
+          low = λ z k m e. ⊎-elim
+              (λ q.
+              let at : node l i ≡ k + 2 = rw q at e in
+              let number : k + 258 ≡ node l i + 256 = omega arith in
+              let cell : getD (put cells (node l i) x y) (k + 258) 0 ≡ y = rw number (put-low cells (node l i) x y long (here .1)) in
+              rw cell (new k at .1))
+              (λ q.
+              let number : k + 258 ≡ node l z + 256 = omega arith in
+              let cell : getD (put cells (node l i) x y) (k + 258) 0 ≡ getD cells (k + 258) 0 = rw number (rank-other cells x y i z h (omega arith) (omega arith) .1) in
+              rw cell (right .low z k q e))
+              (eq-or-lt-of-le {n = z} {m = i} (omega arith));
+        }
+
+    -- n nodes from rank i on have handed on their path weights
+    record Walked (i n : ℕ) (cells cells′ : List ℕ) : Type 0 where
+      wrote : Wrote t l i n cells cells′
+      right : Right t s u l (i + n) cells′
+      hold : (j : ℕ) → i ≤ j → j < i + n → getD cells′ (node l j) 0 ≡ pathWeight t u (node l j)
+
+    walked-start : {i : ℕ} {cells : List ℕ} → length cells ≡ 512 → Right t s u l i cells → Walked i 0 cells cells
+    walked-start long right =
+        record { wrote = wrote-start long; right = rw add-zero right; hold = λ j a b. absurd (omega arith) }
+
+    module _ {i n : ℕ} {cells c : List ℕ} (rooted : getD cells 1 0 ≡ gap t 0 (place t (root t))) (h : i + n < length (t .records)) (w : Walked i n cells c) where
+      walked-inflow : inflow l c (i + n) ≡ pathWeight t u (node l (i + n))
+      walked-inflow = inflow-weight h (w .wrote .root ∙ rooted) (w .right)
+
+      -- one more: its hi arc is in force, and y is right for its lo arc
+      walked-next : (y : ℕ) → ((k : ℕ) → node l (i + n) ≡ k + 2 → (highAt t s k ≡ highWeight t u k) × (y * lowAt t s k ≡ pathWeight t u (k + 2) * lowWeight t u k)) → Walked i (suc n) cells (put c (node l (i + n)) (inflow l c (i + n)) y)
+      walked-next y new =
+          let z = i + n in
+          let x = inflow l c (i + n) in
+          let here = layered .sized .nodes z h in
+          record {
+            wrote = wrote-next x y h (w .wrote);
+            right = right-next x y h (omega arith) (w .wrote .long) (λ k e. (rw (walked-inflow, e, new k e .0) refl, new k e .1)) (w .right);
+            hold = λ j a b. ⊎-elim
+                (λ q. rw q (put-high c (node l z) x y (w .wrote .long) (here .1) ∙ walked-inflow))
+                (λ q. rank-other c x y z j h (omega arith) (omega arith) .0 ∙ w .hold j a q)
+                (eq-or-lt-of-le {n = j} {m = z} (omega arith));
+          }
+
+-- ---------------------------------------------------------------------------
+-- Plans and weights
+
+-- an open line is one of the plan
+open-less : (p : List ℕ) (i : ℕ) → isOpen p i ≡ true → i < length p
+unfolding isOpen
+open-less [] i o = absurd (false≢true o)
+open-less (m ∷ p) zero o = omega arith
+open-less (m ∷ p) (suc i) o = omega (arith, open-less p i o)
+
+-- a line that is settled keeps its mark
+settled-kept : (p : List ℕ) (i : ℕ) → (getD p i 0 ≡ 0 → ⊥) → getD (openTaken p) i 0 ≡ getD p i 0
+unfolding openTaken
+settled-kept [] i f = refl
+settled-kept (zero ∷ p) zero f = absurd (f refl)
+settled-kept (suc m ∷ p) zero f = refl
+settled-kept (zero ∷ p) (suc i) f = settled-kept p i f
+settled-kept (suc m ∷ p) (suc i) f = settled-kept p i f
+
+-- plans that agree from choice c on agree there with their open lines taken
+drop-taken : (p s : List ℕ) (c : ℕ) → length p ≡ length s → ((i : ℕ) → c ≤ i → getD p i 0 ≡ getD s i 0) → drop c (openTaken p) ≡ drop c (openTaken s)
+unfolding openTaken
+drop-taken [] [] c e f = refl
+drop-taken [] (n ∷ s) c e f = absurd (omega arith)
+drop-taken (m ∷ p) [] c e f = absurd (omega arith)
+drop-taken (zero ∷ p) (zero ∷ s) zero e f = ap (λ (q : List ℕ). 1 ∷ q) (drop-taken p s zero (omega arith) (λ i h. f (suc i) (omega arith)))
+drop-taken (zero ∷ p) (suc n ∷ s) zero e f = absurd (omega (arith, f 0 (omega arith)))
+drop-taken (suc m ∷ p) (zero ∷ s) zero e f = absurd (omega (arith, f 0 (omega arith)))
+drop-taken (suc m ∷ p) (suc n ∷ s) zero e f = ap₂ (λ (a : ℕ) (q : List ℕ). a ∷ q) (f 0 (omega arith)) (drop-taken p s zero (omega arith) (λ i h. f (suc i) (omega arith)))
+drop-taken (zero ∷ p) (zero ∷ s) (suc c) e f = drop-taken p s c (omega arith) (λ i h. f (suc i) (omega arith))
+drop-taken (zero ∷ p) (suc n ∷ s) (suc c) e f = drop-taken p s c (omega arith) (λ i h. f (suc i) (omega arith))
+drop-taken (suc m ∷ p) (zero ∷ s) (suc c) e f = drop-taken p s c (omega arith) (λ i h. f (suc i) (omega arith))
+drop-taken (suc m ∷ p) (suc n ∷ s) (suc c) e f = drop-taken p s c (omega arith) (λ i h. f (suc i) (omega arith))
+
+-- the choices before a position are no fewer than those before an earlier one
+choices-mono : (vs : List Variable) (x y : ℕ) → x ≤ y → choiceCount (take x vs) ≤ choiceCount (take y vs)
+unfolding choiceCount
+choices-mono vs zero y h = omega arith
+choices-mono vs (suc x) zero h = absurd (omega arith)
+choices-mono [] (suc x) (suc y) h = omega arith
+choices-mono (choice ∷ vs) (suc x) (suc y) h = omega (arith, choices-mono vs x y (omega arith))
+choices-mono (chance a b ∷ vs) (suc x) (suc y) h = choices-mono vs x y (omega arith)
+
+-- the mark in force at record k, by its choice's number
+mark-of : (t : Table) (s : List ℕ) (k : ℕ) → markOf t s (recordAt (t .records) k .position) ≡ cond (isChoice (variableAt t k)) (markAt t s k) 3
+unfolding markOf variableAt markAt
+mark-of t s k = refl
+
+-- the shares of a variable whose line is settled from the start
+settled-shares : (v : Variable) (m m′ g h : ℕ) → (cond (isChoice v) m 3 ≡ 0 → ⊥) → m ≤ 2 → (isChoice v ≡ true → m′ ≡ m) → (highInForce (cond (isChoice v) m 3) (highShare v 1 * g) ≡ highShare v m′ * g) × (lowKept (cond (isChoice v) m 3) (lowShare v 2 * h) ≡ lowShare v m′ * h)
+unfolding isChoice highShare lowShare highInForce lowKept
+settled-shares choice zero m′ g h f b e = absurd (f refl)
+settled-shares choice (suc zero) m′ g h f b e = rw (e refl) (refl, omega arith)
+settled-shares choice (suc (suc zero)) m′ g h f b e = rw (e refl) (omega arith, refl)
+settled-shares choice (suc (suc (suc m))) m′ g h f b e = absurd (omega arith)
+settled-shares (chance x y) m m′ g h f b e = (refl, refl)
+
+module _ (t : Table) (s : List ℕ) (k : ℕ) where
+  -- at a record of no open line of s the weights of a search are those of the plan visited
+  plain-weights : {p : List ℕ} → Settles s p → ((i : ℕ) → getD s i 0 ≤ 2) → (markOf t s (recordAt (t .records) k .position) ≡ 0 → ⊥) → (highAt t s k ≡ highWeight t (openTaken p) k) × (lowAt t s k ≡ lowWeight t (openTaken p) k)
+  unfolding highAt lowAt highWeight lowWeight highArc lowArc
+  plain-weights {p} settles legal f =
+      let i = choiceCount (take (recordAt (t .records) k .position) (t .variables)) in
+      let mark = mark-number t s k in
+      rw mark-of
+      (settled-shares (variableAt t k) (markAt t s k) (markAt t (openTaken p) k) _ _ (rw mark-of at f) (rw mark (legal i))
+      (λ c.
+      let settled : getD s i 0 ≡ 0 → ⊥ = λ e. f (rw (mark-of t s k, c, mark) e) in
+      let kept = settles .kept i settled in
+      rw (mark-number t (openTaken p) k, mark) (settled-kept p i (λ e. settled (sym kept ∙ e)) ∙ kept)))
+
+  -- at a record of an open line both arcs have their weight
+  open-weights : isChoice (variableAt t k) ≡ true → getD s (choiceCount (take (recordAt (t .records) k .position) (t .variables))) 0 ≡ 0 → (highAt t s k ≡ highArc t k) × (lowAt t s k ≡ lowArc t k)
+  unfolding highAt lowAt highInForce lowKept
+  open-weights c o = rw (mark-of, c, mark-number t s k, o) (refl, refl)
+
+module _ {t : Table} {s : List ℕ} {l : Layers} {losses : List ℕ} (layered : Layered t s l losses) {p : List ℕ} (settles : Settles s p) {from own to d : ℕ} (line : Line t s l from own to d) (lowest : lowestOpen p ≡ d) (o : isOpen p d ≡ true) (cells : List ℕ) (long : length cells ≡ 512) (rooted : getD cells 1 0 ≡ gap t 0 (place t (root t))) (right : Right t s (openTaken p) l from cells) where
+  -- the cells once the layer is entered
+  abbrev entered : List ℕ
+  entered = ownNodes l own (to - own) (passNodes l from (own - from) cells)
+
+  -- the cells once the nodes before the line's own have handed on
+  abbrev base : List ℕ
+  base = passNodes l from (own - from) cells
+
+  -- the line is open from the start
+  open-start : isOpen s d ≡ true
+  open-start =
+      open-within s d (omega (arith, open-less p d o, settles .size)) (sym (settles .later d (omega arith)) ∙ open-zero p d o)
+
+  -- a record of the line
+  module _ (j : ℕ) (a : own ≤ j) (b : j < to) (k : ℕ) (e : node l j ≡ k + 2) where
+    own-position : recordAt (t .records) k .position ≡ line .position
+    own-position = sym (place-node t k) ∙ rw e at (line .here j a b)
+
+    own-choice : isChoice (variableAt t k) ≡ true
+    unfolding variableAt
+    own-choice = rw own-position (line .stand .chosen)
+
+    own-number : choiceCount (take (recordAt (t .records) k .position) (t .variables)) ≡ d
+    own-number = rw own-position (line .stand .number)
+
+    own-arcs : (highAt t s k ≡ highArc t k) × (lowAt t s k ≡ lowArc t k)
+    own-arcs = open-weights t s k own-choice (rw own-number (open-zero s d open-start))
+
+    own-taken : (highWeight t (openTaken p) k ≡ highArc t k) × (lowWeight t (openTaken p) k ≡ 0)
+    own-taken = weights-taken t (openTaken p) k own-choice (rw (mark-number t (openTaken p) k, own-number, open-taken p d o) refl)
+
+    own-left : (highWeight t (openTaken (set p d 2)) k ≡ 0) × (lowWeight t (openTaken (set p d 2)) k ≡ lowArc t k)
+    own-left =
+        let mark = getD-set-same (openTaken p) d 2 0 (within-plan (openTaken p) d (open-taken p d o)) in
+        weights-left t (openTaken (set p d 2)) k own-choice (rw (mark-number t (openTaken (set p d 2)) k, own-number, openTaken-set p d, mark) refl)
+
+  -- the nodes before the line's own hand on their path weights
+  passed : (n : ℕ) → from + n ≤ own → Walked layered (openTaken p) from n cells (passNodes l from n cells)
+  unfolding passNodes passNode
+  passed zero h = walked-start layered (openTaken p) long right
+  passed (suc n) h =
+      let w = passed n (omega arith) in
+      let less : from + n < length (t .records) = omega (arith, line .bounds) in
+      let come = walked-inflow layered (openTaken p) rooted less w in
+      walked-next layered (openTaken p) rooted less w _
+      (λ k e.
+      let at : place t (node l (from + n)) ≡ recordAt (t .records) k .position = rw e (place-node t k) in
+      let q = plain-weights t s k settles (layered .legal) (rw at at (line .plain (from + n) (omega arith) (omega arith))) in
+      (q .0, rw (come, e, q .1) refl))
+
+  base-walked : Walked layered (openTaken p) from (own - from) cells base
+  base-walked = passed (own - from) (omega (arith, line .bounds))
+
+  base-rooted : getD base 1 0 ≡ gap t 0 (place t (root t))
+  base-rooted = base-walked .wrote .root ∙ rooted
+
+  -- and so do its own, by their hi arcs
+  owned : (n : ℕ) → own + n ≤ to → Walked layered (openTaken p) own n base (ownNodes l own n base)
+  unfolding ownNodes ownNode
+  owned zero h =
+      let all : from + (own - from) ≡ own = omega (arith, line .bounds) in
+      walked-start layered (openTaken p) (base-walked .wrote .long) (rw all at (base-walked .right))
+  owned (suc n) h =
+      let w = owned n (omega arith) in
+      let less : own + n < length (t .records) = omega (arith, line .bounds) in
+      walked-next layered (openTaken p) base-rooted less w 0
+      (λ k e.
+      let arcs = own-arcs (own + n) (omega arith) (omega arith) k e in
+      let taken = own-taken (own + n) (omega arith) (omega arith) k e in
+      (arcs .0 ∙ sym (taken .0), rw (taken .1) (omega arith)))
+
+  entered-walked : Walked layered (openTaken p) own (to - own) base entered
+  entered-walked = owned (to - own) (omega (arith, line .bounds))
+
+  -- ---------------------------------------------------------------------------
+  -- The drop
+
+  -- the values from the line's position on are those under the plan that the search starts from
+  value-start : (n : ℕ) → line .position ≤ place t n → value t (openTaken s) n ≡ value t (openTaken p) n
+  unfolding value valueFrom marksFrom
+  value-start n h =
+      let after = choices-mono (t .variables) (line .position) (place t n) h in
+      let same = drop-taken p s (choiceCount (take (place t n) (t .variables))) (settles .size) (λ i b. settles .later i (omega (arith, line .stand .number))) in
+      rw same refl
+
+  -- the loss at a record of the line is its shortfall
+  own-loss : (j : ℕ) → own ≤ j → j < to → (k : ℕ) → node l j ≡ k + 2 → getD losses j 0 ≡ shortfall t p d k
+  unfolding shortfall isOf place
+  own-loss j a b k e =
+      let at = own-position j a b k e in
+      let is : isOf t d k ≡ true = and-true-both _ _ (own-choice j a b k e) (eq-eqb _ _ (own-number j a b k e)) in
+      let own-value = value-start (k + 2) (omega (arith, place-node t k)) in
+      let low-value = value-start (recordAt (t .records) k .lo) (omega (arith, layered .formed .loLater k)) in
+      layered .lost j k (omega (arith, line .bounds)) e (own-choice j a b k e) (rw (own-number j a b k e) open-start) ∙ rw (own-value, low-value, is) refl
+
+  -- what is lost at node m
+  abbrev lostAt : (m : ℕ) → ℕ
+  lostAt m = pathWeight t (openTaken p) m * shortfall t p d (m - 2)
+
+  dropped : (n : ℕ) → own + n ≤ to → dropSum l losses own n base ≡ rankSum (λ j. lostAt (node l j)) own n
+  unfolding dropSum rankSum
+  dropped zero h = refl
+  dropped (suc n) h =
+      let less : own + n < length (t .records) = omega (arith, line .bounds) in
+      let k = layered .nodes (own + n) less in
+      let number : node l (own + n) - 2 ≡ k .0 = omega (arith, k .2) in
+      let loss = own-loss (own + n) (omega arith) (omega arith) (k .0) (k .2) in
+      rw (dropped n (omega arith), walked-inflow layered (openTaken p) base-rooted less (owned n (omega arith)), loss, number) refl
+
+  -- records of the line stand at its position
+  of-line : (k : ℕ) → isOf t d k ≡ true → recordAt (t .records) k .position ≡ line .position
+  unfolding isOf variableAt
+  of-line k e =
+      let c = both (isChoice (variableAt t k)) e in
+      let x = line .position in
+      let y = recordAt (t .records) k .position in
+      let number = eqb-true (choiceCount (take y (t .variables))) d (c .1) in
+      by-cases (decLt x y)
+      (λ h. absurd (omega (arith, number, line .stand .number, choices-later (t .variables) x y h (line .stand .chosen))))
+      (λ f. by-cases (decLt y x)
+      (λ h. absurd (omega (arith, number, line .stand .number, choices-later (t .variables) y x h (c .0))))
+      (λ g. omega (arith, f, g)))
+
+  -- other records have no shortfall
+  off-line : (k : ℕ) → eqb (recordAt (t .records) k .position) (line .position) ≡ false → shortfall t p d k ≡ 0
+  unfolding shortfall
+  off-line k e =
+      let no : isOf t d k ≡ false = is-false _ (λ q. false≢true (sym e ∙ eq-eqb _ _ (of-line k q))) in
+      rw no refl
+
+  -- the sum at the line's position is one over all records
+  at-line : (n : ℕ) → atSum t lostAt (line .position) n ≡ weightSum (pathWeight t (openTaken p)) (shortfall t p d) n
+  unfolding atSum weightSum
+  at-line zero = refl
+  at-line (suc k) =
+      let number : k + 2 - 2 ≡ k = omega arith in
+      rw (at-line k, number) (ap (λ (z : ℕ). weightSum (pathWeight t (openTaken p)) (shortfall t p d) k + z) (go (eqb (recordAt (t .records) k .position) (line .position)) refl))
+    where
+      go : (b : Bool) → eqb (recordAt (t .records) k .position) (line .position) ≡ b → cond b (pathWeight t (openTaken p) (k + 2) * shortfall t p d k) 0 ≡ pathWeight t (openTaken p) (k + 2) * shortfall t p d k
+      go true e = refl
+      go false e = rw (off-line k e) (omega arith)
+
+  drop-sum : dropSum l losses own (to - own) base ≡ derivative t p d
+  drop-sum =
+      dropped (to - own) (omega (arith, line .bounds))
+      ∙ line .covers lostAt
+      ∙ at-line (length (t .records))
+      ∙ sym (drop-weights t (layered .formed) (layered .shares) (layered .sized .few) (layered .monotone) p d o)
+
+  drop-fits : derivative t p d ≤ 2 ^ 56
+  unfolding derivative upperBound scale
+  drop-fits = rw o (omega (arith, score-le-scale t (layered .shares) (openTaken p), layered .bounded))
+
+  -- ---------------------------------------------------------------------------
+  -- The layer entered
+
+  -- the layer may be entered
+  pub enterable : Enterable l losses (length (t .records)) from own to cells
+  enterable =
+      let fits = weight-fits t (layered .formed) (layered .shares) (layered .sized .few) (layered .some) (layered .bounded) (openTaken p) in
+      record {
+        sized = layered .sized;
+        bounds = line .bounds;
+        long = long;
+        passes = λ i h. rw (walked-inflow layered (openTaken p) rooted (omega (arith, line .bounds)) (passed i (omega arith))) (fits _);
+        enters = λ i h. rw (walked-inflow layered (openTaken p) base-rooted (omega (arith, line .bounds)) (owned i (omega arith))) (fits _);
+        drops = rw drop-sum drop-fits;
+      }
+
+  -- what leaving the line loses is its drop
+  pub entered-drop : dropSum l losses own (to - own) (passNodes l from (own - from) cells) ≡ derivative t p d
+  entered-drop = drop-sum
+
+  -- the cells are right up to the end of the layer, and before the layer as they were
+  pub entered-right : Right t s (openTaken p) l to entered
+  entered-right =
+      let all : own + (to - own) ≡ to = omega (arith, line .bounds) in
+      rw all at (entered-walked .right)
+
+  pub entered-same : Same l from cells entered
+  entered-same =
+      let first = wrote-same (omega (arith, line .bounds)) (base-walked .wrote) in
+      let second = wrote-same (omega (arith, line .bounds)) (entered-walked .wrote) in
+      same-trans first (same-fewer (line .bounds .0) second)
+
+  pub entered-long : length entered ≡ 512
+  entered-long = entered-walked .wrote .long
+
+  -- ---------------------------------------------------------------------------
+  -- The line left
+
+  -- to leave the line changes no weight before its position
+  before-weights : (k : ℕ) → recordAt (t .records) k .position < line .position → (highWeight t (openTaken p) k ≡ highWeight t (openTaken (set p d 2)) k) × (lowWeight t (openTaken p) k ≡ lowWeight t (openTaken (set p d 2)) k)
+  unfolding variableAt
+  before-weights k less =
+      weights-same t (openTaken p) (openTaken (set p d 2)) k
+      (λ c.
+      let earlier = choices-later (t .variables) (recordAt (t .records) k .position) (line .position) less c in
+      rw (openTaken-set p d, mark-number t (openTaken p) k, mark-number t (set (openTaken p) d 2) k)
+      (sym (getD-set-other (openTaken p) d _ 2 0 (omega (arith, line .stand .number)))))
+
+  -- nor any path weight up to there
+  path-same : (j k : ℕ) → j < to → node l j ≡ k + 2 → pathWeight t (openTaken p) (k + 2) ≡ pathWeight t (openTaken (set p d 2)) (k + 2)
+  path-same j k h e =
+      let less : j < length (t .records) = omega (arith, line .bounds) in
+      let here = layered .nodes j less in
+      let place-le : place t (node l j) ≤ line .position = by-cases (decLt j own) (λ b. le-of-lt (line .before j b)) (λ f. le-of-eq (line .here j (omega (arith, f)) h)) in
+      weight-local t (layered .formed) (layered .shares) (layered .sized .few) (openTaken p) (openTaken (set p d 2)) (line .position) (λ k b q. before-weights k q) (k + 2) (omega arith) (omega (arith, here .1, here .2)) (rw e at place-le)
+
+  -- cells that are the same up to the end of the layer are right for the line left, once it is left
+  module _ (cells′ : List ℕ) (long′ : length cells′ ≡ 512) (same : Same l to entered cells′) where
+    turned-all : Turned layered own (to - own) cells′ (leaveNodes (l .order) own (to - own) cells′)
+    turned-all = turned layered own (to - own) (omega (arith, line .bounds)) long′
+
+    turned-same : Same l own cells′ (leaveNodes (l .order) own (to - own) cells′)
+    turned-same = wrote-same (omega (arith, line .bounds)) (turned-all .wrote)
+
+    pub left-right : Right t s (openTaken (set p d 2)) l to (leaveNodes (l .order) own (to - own) cells′)
+    left-right =
+        let c = leaveNodes (l .order) own (to - own) cells′ in
+        let before = right-same (same-trans (same-fewer (line .bounds .1) same) turned-same) (right-fewer (line .bounds .1) entered-right) in
+        record {
+          high = λ j k h e. by-cases (decLt j own)
+              (λ b.
+              let at : recordAt (t .records) k .position < line .position = rw (e, place-node t k) at (line .before j b) in
+              before .high j k b e ∙ rw (path-same j k h e, before-weights k at .0) refl)
+              (λ f.
+              let a : own ≤ j = omega (arith, f) in
+              let cell : getD c (k + 2) 0 ≡ 0 = rw e at (turned-all .high j a (omega arith)) in
+              rw (cell, own-left j a h k e .0) (omega arith));
+          low = λ j k h e. by-cases (decLt j own)
+              (λ b.
+              let at : recordAt (t .records) k .position < line .position = rw (e, place-node t k) at (line .before j b) in
+              before .low j k b e ∙ rw (path-same j k h e, before-weights k at .1) refl)
+              (λ f.
+              let a : own ≤ j = omega (arith, f) in
+              let number : k + 258 ≡ node l j + 256 = omega arith in
+              let cell : getD c (k + 258) 0 ≡ pathWeight t (openTaken (set p d 2)) (k + 2) = rw number (turned-all .low j a (omega arith) ∙ same .high j h ∙ entered-walked .hold j a (omega arith) ∙ rw e (path-same j k h e)) in
+              rw (cell, own-arcs j a h k e .1, own-left j a h k e .1) refl);
+        }
+
+    pub left-same : Same l own cells′ (leaveNodes (l .order) own (to - own) cells′)
+    left-same = turned-same
+
+    pub left-long : length (leaveNodes (l .order) own (to - own) cells′) ≡ 512
+    left-long = turned-all .wrote .long

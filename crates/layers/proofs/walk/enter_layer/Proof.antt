@@ -1,0 +1,69 @@
+-- `enter_layer` meets its contract: the nodes before the line are passed, and then its own are entered. Assumes nothing.
+use borrow.Author.Needs.{needs}
+use native.Mathlib.Nat.{le-trans}
+use Rattle.layers.proofs.Walking.{passed-length}
+use Rattle.layers.proofs.walk.enter_layer.Statement.{statement}
+use Rattle.layers.proofs.walk.enter_layer.Tie as tie
+
+element-copy-out-from : tie.Need-element-copy-out-from
+element-copy-out-from c = search needs
+
+cast-from : tie.Need-cast-from
+cast-from c = search needs
+
+add-own : tie.Need-add-own
+add-own c = search needs
+
+element-copy-out-own : tie.Need-element-copy-out-own
+element-copy-out-own c = search needs
+
+cast-own : tie.Need-cast-own
+cast-own c = search needs
+
+sub-to : tie.Need-sub-to
+sub-to c = search needs
+
+element-copy-out-to : tie.Need-element-copy-out-to
+element-copy-out-to c = search needs
+
+cast-to : tie.Need-cast-to
+cast-to c = search needs
+
+pass-requires : tie.Need-pass-requires
+pass-requires c κs =
+    let pre = c .before .before .before .before .pre in
+    let layer = pre .2 .1 in
+    let own = layer .bounds .1 in
+    let to = layer .bounds .2 in
+    (layer .bounds .0, layer .long, (pre .2 .0, layer .sized, le-trans own to, layer .passes))
+
+enter-requires : tie.Need-enter-requires
+enter-requires c κs =
+    let pre = c .before .before .before .before .before .before .pre in
+    let layer = pre .2 .1 in
+    let passed = c .before .pass .ensures in (
+      layer .bounds .1,
+      rw (passed, passed-length) (layer .long),
+      (pre .2 .0, layer .sized, layer .bounds .2, λ i h. rw passed (layer .enters i h), rw passed (layer .drops)),
+    )
+
+returns : tie.Need-returns
+returns c =
+    let passed = c .before .before .pass .ensures in
+    (rw (← passed) (c .enter .ensures .0), rw (← passed) (c .enter .ensures .1))
+
+pub enter-layer-spec : {M : Type 1} → statement M
+enter-layer-spec =
+    tie.close
+    (tie.spec
+    element-copy-out-from
+    cast-from
+    add-own
+    element-copy-out-own
+    cast-own
+    sub-to
+    element-copy-out-to
+    cast-to
+    pass-requires
+    enter-requires
+    returns)

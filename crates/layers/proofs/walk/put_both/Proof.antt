@@ -1,0 +1,37 @@
+-- `put_both` meets its contract: the two cells of the node's number are written. Assumes nothing.
+use borrow.Author.Needs.{needs}
+use Rattle.layers.proofs.walk.put_both.Statement.{statement}
+use Rattle.layers.proofs.walk.put_both.Tie as tie
+
+number-requires : tie.Need-number-requires
+number-requires c κs = search needs
+
+mul-cells : tie.Need-mul-cells
+mul-cells c = search needs
+
+element-write-cells : tie.Need-element-write-cells
+element-write-cells c = search needs
+
+add-cells : tie.Need-add-cells
+add-cells c = search needs
+
+mul-cells-2 : tie.Need-mul-cells-2
+mul-cells-2 c = search needs
+
+element-write-cells-2 : tie.Need-element-write-cells-2
+element-write-cells-2 c = search needs
+
+returns : tie.Need-returns
+returns c = rw (c .number .ensures)
+
+pub put-both-spec : {M : Type 1} → statement M
+put-both-spec =
+    tie.close
+    (tie.spec
+    number-requires
+    mul-cells
+    element-write-cells
+    add-cells
+    mul-cells-2
+    element-write-cells-2
+    returns)

@@ -1,0 +1,6 @@
+-- Path weights, the layers of a search, and what the cells of a search hold.
+pub mod Weights
+pub mod Chains
+pub mod Layers
+pub mod Flows
+pub mod Weighed

@@ -1,0 +1,18 @@
+-- What the arrays of weights and losses hold.
+use Prim.Native.Nat.{ℕ, _+_, _-_, _*_, _<_}
+use mathlib.Core.Path.{_≡_}
+use mathlib.Core.Bool.{cond}
+use mathlib.Core.List.{List}
+use lib.ListN.{length, getD}
+use lib.Dec.{eqb}
+
+-- The weights of the arcs of n records, by the arcs' numbers: the hi arcs', the lo arcs', and 1 for the root's own
+pub record Weighted (n : ℕ) (high low : ℕ → ℕ) (weights : List ℕ) : Type 0 where
+  pub root : getD weights 1 0 ≡ 1
+  pub highs : (k : ℕ) → k < n → getD weights (k + 2) 0 ≡ high k
+  pub lows : (k : ℕ) → k < n → getD weights (k + 258) 0 ≡ low k
+
+-- What leaving its line loses of node m's value, where the line is open, and else 0
+unfoldable pub lossOf : (positions marks low lowArcs values : List ℕ) → (m : ℕ) → ℕ
+lossOf ps ms ls la vs m =
+    cond (eqb (getD ms (getD ps m 0) 0) 0) (getD vs m 0 - getD la m 0 * getD vs (getD ls m 0) 0) 0

@@ -1,0 +1,115 @@
+// The weights of the arcs during a search, and what leaving a line loses at each of its nodes.
+use crate::walk::node_at;
+use diagram::Node;
+use diagram::Plan;
+use reading::child_of;
+use reading::position_of;
+use scoring::high_weight;
+use scoring::mark_at;
+use scoring::value_of;
+ghost use mathlib.Core.Path.{_≡_};
+ghost use mathlib.Core.Bool.{cond};
+ghost use Prim.Native.Nat.{ℕ, _+_, _-_, _*_, _≤_, _<_, _^_};
+ghost use lib.ListN.{length, getD};
+ghost use lib.Dec.{eqb};
+ghost use Rattle.diagram.specs.Table.{sequence};
+ghost use Rattle.scoring.specs.Passes.{over, highInForce, markAtNode};
+ghost use Rattle.layers.specs.Flows.{lowKept};
+ghost use Rattle.layers.specs.Weighed.{Weighted, lossOf};
+
+// The weights of the arcs of the first n records, by the arcs' numbers: 0 where the plan that the search starts from closes
+// the arc. The arc 1, which brings the root its weight, weighs 1. The positions are a table's, and so below 64.
+pub fn weigh_arcs(
+    n: usize,
+    positions: &[u8; 256],
+    marks: &[u8; 64],
+    high_arcs: &[u64; 256],
+    low_arcs: &[u64; 256],
+    weights: &mut [u64; 512],
+)
+    requires { ⌜ (n ≤ 254) × ((k : ℕ) → getD (now positions) k 0 < 64) × (length (now weights) ≡ 512) ⌝ }
+    ensures { λ _. ⌜ Weighted n (λ (k : ℕ). highInForce (markAtNode (now (positions .entry)) (now (marks .entry)) k) (getD (now («high_arcs» .entry)) (k + 2) 0)) (λ (k : ℕ). lowKept (markAtNode (now (positions .entry)) (now (marks .entry)) k) (getD (now («low_arcs» .entry)) (k + 2) 0)) (now (weights .exit)) ⌝ }
+{
+    weights[1] = 1;
+    let mut k = 0;
+    while k < n {
+        let mark = mark_of(positions, marks, Node::of_record(k));
+        weights[k + 2] = high_weight(mark, high_arcs[k + 2]);
+        weights[k + 258] = low_kept(mark, low_arcs[k + 2]);
+        k += 1;
+    }
+}
+
+// The mark at a node's position.
+fn mark_of(positions: &[u8; 256], marks: &[u8; 64], node: Node) -> u8
+    requires { ⌜ getD (now positions) (node .0) 0 < 64 ⌝ }
+    ensures { λ r. ⌜ r ≡ getD (now (marks .entry)) (getD (now (positions .entry)) (node .0) 0) 0 ⌝ }
+{
+    mark_at(marks, position_of(positions, node))
+}
+
+// The weight of a lo arc during a search: 0 where the line is taken from the start.
+fn low_kept(mark: u8, arc: u64) -> u64
+    ensures { λ r. ⌜ r ≡ lowKept mark arc ⌝ }
+{
+    if mark == Plan::TAKEN { 0 } else { arc }
+}
+
+// The weights of the first `count` arcs of a list.
+pub fn pick_arcs(count: usize, sources: &[u16; 512], weights: &[u64; 512], arcs: &mut [u64; 512])
+    requires { ⌜ (count ≤ 512) × (length (now arcs) ≡ 512) × ((j : ℕ) → getD (now sources) j 0 < 512) ⌝ }
+    ensures { λ _. ⌜ now (arcs .exit) ≡ over (sequence (λ (j : ℕ). getD (now (weights .entry)) (getD (now (sources .entry)) j 0) 0) 0 count) (now (arcs .entry)) ⌝ }
+{
+    let mut j = 0;
+    while j < count {
+        let a = sources[j] as usize;
+        arcs[j] = weights[a];
+        j += 1;
+    }
+}
+
+// What leaving its line loses of each node's value, by rank. The values are those of the table under the plan that the search
+// starts from, with all open lines taken.
+pub fn weigh_losses(
+    n: usize,
+    positions: &[u8; 256],
+    marks: &[u8; 64],
+    low: &[u8; 256],
+    low_arcs: &[u64; 256],
+    values: &[u64; 256],
+    order: &[u16; 512],
+    losses: &mut [u64; 256],
+)
+    requires sizes { ⌜ (n ≤ 254) × (length (now losses) ≡ 256) × ((k : ℕ) → getD (now positions) k 0 < 64) × ((i : ℕ) → i < n → getD (now order) i 0 < 256) ⌝ }
+    requires fits { ⌜ ((i : ℕ) → i < n → getD (now marks) (getD (now positions) (getD (now order) i 0) 0) 0 ≡ 0 → (getD (now «low_arcs») (getD (now order) i 0) 0 * getD (now values) (getD (now low) (getD (now order) i 0) 0) 0 ≤ getD (now values) (getD (now order) i 0) 0) × (getD (now values) (getD (now order) i 0) 0 ≤ 2 ^ 56)) ⌝ }
+    ensures { λ _. ⌜ now (losses .exit) ≡ over (sequence (λ (i : ℕ). lossOf (now (positions .entry)) (now (marks .entry)) (now (low .entry)) (now («low_arcs» .entry)) (now (values .entry)) (getD (now (order .entry)) i 0)) 0 n) (now (losses .entry)) ⌝ }
+{
+    let mut i = 0;
+    while i < n {
+        let node = node_at(order, i);
+        losses[i] = loss_of(positions, marks, low, low_arcs, values, node);
+        i += 1;
+    }
+}
+
+// What leaving its line loses of a node's value, where its line is open, and else 0.
+fn loss_of(
+    positions: &[u8; 256],
+    marks: &[u8; 64],
+    low: &[u8; 256],
+    low_arcs: &[u64; 256],
+    values: &[u64; 256],
+    node: Node,
+) -> u64
+    requires { ⌜ getD (now positions) (node .0) 0 < 64 ⌝ }
+    requires fits { ⌜ (getD (now marks) (getD (now positions) (node .0) 0) 0 ≡ 0 → (getD (now «low_arcs») (node .0) 0 * getD (now values) (getD (now low) (node .0) 0) 0 ≤ getD (now values) (node .0) 0) × (getD (now values) (node .0) 0 ≤ 2 ^ 56)) ⌝ }
+    ensures { λ r. ⌜ r ≡ lossOf (now (positions .entry)) (now (marks .entry)) (now (low .entry)) (now («low_arcs» .entry)) (now (values .entry)) (node .0) ⌝ }
+{
+    if mark_of(positions, marks, node) != Plan::OPEN {
+        return 0;
+    }
+    let m = node.number();
+    let child = child_of(low, node);
+    let left = low_arcs[m] * value_of(values, child);
+    value_of(values, node) - left
+}
