@@ -89,7 +89,7 @@ pub fn compare(seed: u64, requests: u64) -> Counts {
         let library = with(&marks, |b| jigbalo::filter(file, plan, q.percent, b));
         same(&mut counts, "filter", &q, library, with(&marks, |b| plain::filter(file, plan, q.percent, b)), &marks);
         let library = with(&marks, |b| jigbalo::search(file, plan, q.kits, q.percent, b));
-        for form in [Form::Layers, Form::Sweeps] {
+        for form in [Form::Layers, Form::Fetched, Form::Sweeps] {
             let other = with(&marks, |b| plain::search(form, file, plan, q.kits, q.percent, b));
             assert_eq!(library, other, "search, {form:?}");
         }

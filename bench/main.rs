@@ -1,5 +1,8 @@
 //! The proved library beside plain Rust, in one run: first every answer, which has to be the same, then the times.
+/// An earlier library: `run.sh` writes this file from examples/jigbalo.rs, with other names for the functions.
 #[cfg(before)]
+#[allow(dead_code)]
+#[path = "../target/bench/before.rs"]
 mod before;
 mod compare;
 #[path = "../examples/jigbalo.rs"]

@@ -13,6 +13,7 @@ if [ "$1" = --before ]; then
     (cd $out/before && rt staticlib export >/dev/null)
     cp $out/before/target/staticlib/libexport.a $out/libbefore.a
     objcopy $(for f in read score sweep filter search; do echo "--redefine-sym jigbalo_$f=before_$f"; done) $out/libbefore.a
+    sed 's/jigbalo_/before_/' examples/jigbalo.rs >$out/before.rs
     flags="--cfg before -L $out -l static=before"
     shift 2
 fi

@@ -89,6 +89,7 @@ const PROGRAMS: &[Program] = &[
     Program::Before,
     Program::Plain(Form::PassUp),
     Program::Plain(Form::Layers),
+    Program::Plain(Form::Fetched),
     Program::Plain(Form::Sweeps),
 ];
 
@@ -97,7 +98,9 @@ fn search(program: Program, file: &[u8], kits: u32) -> (Result<Finding, Refusal>
     let answer = match program {
         Program::Library => jigbalo::search(file, &OPEN, kits, 0, &mut plan),
         #[cfg(before)]
-        Program::Before => crate::before::search(file, &OPEN, kits, 0, &mut plan),
+        Program::Before => crate::before::search(file, &OPEN, kits, 0, &mut plan)
+            .map(|f| Finding { score: f.score, visits: f.visits })
+            .map_err(|r| Refusal { number: r.number, place: r.place }),
         Program::Plain(form) => plain::search(form, file, &OPEN, kits, 0, &mut plan),
     };
     (answer, plan)
@@ -141,7 +144,7 @@ pub fn table() {
     println!("{:<30} | {:<19} | {:<19} | search, ns a visit", "", "read, µs", "sweep, µs");
     println!(
         "job       records kits  visits | library plain ratio | library plain ratio | library \
-         {}pass up ratio  layers ratio  sweeps ratio",
+         {}pass up ratio    sent ratio fetched ratio  sweeps ratio",
         if cfg!(before) { " before ratio " } else { "" }
     );
     for (needed, kits) in [(10, 3), (10, 5), (8, 9)] {

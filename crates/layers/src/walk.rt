@@ -7,7 +7,8 @@ ghost use lib.ListN.{length, getD};
 ghost use Rattle.layers.specs.Layers.{Sized, flowSum, inflow, put, passNodes, ownNodes, dropSum, leaveNodes, Enterable};
 
 // Enters the layer of the lowest of `unsettled` open lines, whose ranks `lines` has: the nodes before the line hand their weights on
-// by both arcs, the line's own by their hi arcs, as if it were taken. Answers what leaving the line loses.
+// by both arcs, the line's own by their hi arcs, as if it were taken. Answers what leaving the line loses. The arrays
+// are a layout, and the sums fit: `visit` hands them in.
 pub fn enter_layer(
     order: &[u16; 512],
     starts: &[u16; 256],
@@ -77,6 +78,7 @@ fn enter(
 }
 
 // Leaves the lowest of `unsettled` open lines: what its nodes have handed on by their hi arcs goes by their lo arcs.
+// `visit` hands in the arrays of a layout.
 pub fn leave_layer(order: &[u16; 512], lines: &[u8; 64], cells: &mut [u64; 512], unsettled: usize)
     requires { ⌜ (1 ≤ unsettled) × (unsettled ≤ 20) × (length (now cells) ≡ 512) × (getD (now lines) (unsettled + 21) 0 ≤ getD (now lines) (unsettled - 1) 0) × ((i : ℕ) → i < getD (now lines) (unsettled - 1) 0 → getD (now order) i 0 < 256) ⌝ }
     ensures { λ _. ⌜ now (cells .exit) ≡ leaveNodes (now (order .entry)) (getD (now (lines .entry)) (unsettled + 21) 0) (getD (now (lines .entry)) (unsettled - 1) 0 - getD (now (lines .entry)) (unsettled + 21) 0) (now (cells .entry)) ⌝ }
@@ -91,7 +93,7 @@ pub fn leave_layer(order: &[u16; 512], lines: &[u8; 64], cells: &mut [u64; 512],
     }
 }
 
-// The node at a rank.
+// The node at a rank. Whoever calls has a rank of the layout.
 pub fn node_at(order: &[u16; 512], i: usize) -> Node
     requires { ⌜ (i < 512) × (getD (now order) i 0 < 256) ⌝ }
     ensures { λ r. ⌜ r .0 ≡ getD (now (order .entry)) i 0 ⌝ }

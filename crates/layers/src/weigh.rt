@@ -18,7 +18,8 @@ ghost use Rattle.layers.specs.Flows.{lowKept};
 ghost use Rattle.layers.specs.Weighed.{Weighted, lossOf};
 
 // The weights of the arcs of the first n records, by the arcs' numbers: 0 where the plan that the search starts from closes
-// the arc. The arc 1, which brings the root its weight, weighs 1. The positions are a table's, and so below 64.
+// the arc. The arc 1, which brings the root its weight, weighs 1. The positions are a table's, and so below 64:
+// the search hands in an accepted table's.
 pub fn weigh_arcs(
     n: usize,
     positions: &[u8; 256],
@@ -55,7 +56,7 @@ fn low_kept(mark: u8, arc: u64) -> u64
     if mark == Plan::TAKEN { 0 } else { arc }
 }
 
-// The weights of the first `count` arcs of a list.
+// The weights of the first `count` arcs of a list, which has arcs' numbers alone, as `order_arcs` leaves it.
 pub fn pick_arcs(count: usize, sources: &[u16; 512], weights: &[u64; 512], arcs: &mut [u64; 512])
     requires { ⌜ (count ≤ 512) × (length (now arcs) ≡ 512) × ((j : ℕ) → getD (now sources) j 0 < 512) ⌝ }
     ensures { λ _. ⌜ now (arcs .exit) ≡ over (sequence (λ (j : ℕ). getD (now (weights .entry)) (getD (now (sources .entry)) j 0) 0) 0 count) (now (arcs .entry)) ⌝ }
@@ -69,7 +70,7 @@ pub fn pick_arcs(count: usize, sources: &[u16; 512], weights: &[u64; 512], arcs:
 }
 
 // What leaving its line loses of each node's value, by rank. The values are those of the table under the plan that the search
-// starts from, with all open lines taken.
+// starts from, with all open lines taken, and so no loss is below zero: the search hands in a monotone table's.
 pub fn weigh_losses(
     n: usize,
     positions: &[u8; 256],
