@@ -13,12 +13,13 @@ use Rattle.diagram.specs.Ranking.{takesFirst}
 use Rattle.diagram.specs.Visits as visits
 use Rattle.diagram.specs.declared.plan.Plan.{Plan}
 use Rattle.scoring.specs.Value.{place, gap, highArc, lowArc}
-use Rattle.scoring.specs.Passes.{over, byNode, Decoded}
+use Rattle.scoring.specs.Passes.{over, byNode, Decoded, marksByPosition, highInForce, markAtNode}
 use Rattle.sweep.specs.Drops.{LargestFailing}
 use Rattle.rule.specs.Rule.{terms, rule}
-use Rattle.layers.specs.Chains.{pick, joined}
+use Rattle.layers.specs.Chains.{pick, joined, placed, arcsInto}
 use Rattle.layers.specs.Layers.{Layers}
-use Rattle.layers.specs.Flows.{Layered, Line, Settles, Right, Same, rankSum, atSum}
+use Rattle.layers.specs.Weighed.{Weighted}
+use Rattle.layers.specs.Flows.{lowKept, Layered, Line, Settles, Right, Same, rankSum, atSum}
 
 -- ---------------------------------------------------------------------------
 -- Plans
@@ -144,6 +145,15 @@ pub record Arrays (s : List ℕ) (n weight : ℕ) (positions high low highArcs l
   pub decoded : Decoded s positions high low
   pub high-arcs : highArcs ≡ over (byNode (highArc (tableOf s)) n) (replicate 256 0)
   pub low-arcs : lowArcs ≡ over (byNode (lowArc (tableOf s)) n) (replicate 256 0)
+
+-- The marks by position, and the nodes and arcs in order, as `arrange` leaves them
+pub record Ordered (s p : List ℕ) (n : ℕ) (positions high low highArcs lowArcs marks ends : List ℕ) (l : Layers) : Type 0 where
+  pub marking : marks ≡ marksByPosition (tableOf s) p
+  pub nodes : l .order ≡ placed (replicate 512 0) 0 (joined (λ x. pick positions 0 x n) (length (tableOf s .variables)))
+  pub ending : ends ≡ over (sequence (λ x. length (joined (λ y. pick positions 0 y n) x)) 0 (length (tableOf s .variables) + 1)) (replicate 256 0)
+  pub sourced : l .sources ≡ placed (replicate 512 0) 0 (joined (λ i. arcsInto high low n (getD (l .order) i 0)) n)
+  pub started : l .starts ≡ over (sequence (λ x. length (joined (λ i. arcsInto high low n (getD (l .order) i 0)) x)) 0 (n + 1)) (replicate 256 0)
+  pub weighed : (weights : List ℕ) × (count : ℕ) × Weighted n (λ k. highInForce (markAtNode positions marks k) (getD highArcs (k + 2) 0)) (λ k. lowKept (markAtNode positions marks k) (getD lowArcs (k + 2) 0)) weights × (count ≡ getD (l .starts) n 0) × (l .arcs ≡ over (sequence (λ j. getD weights (getD (l .sources) j 0) 0) 0 count) (replicate 512 0))
 
 -- `ends` has how many nodes of the order stand before each position: those before stand there, those from there to the next at it, and those after later
 pub record Ending (t : Table) (l : Layers) (ends : List ℕ) : Type 0 where

@@ -24,7 +24,7 @@ ghost use Rattle.diagram.specs.Table.{tableOf, choiceCount};
 ghost use Rattle.diagram.specs.Plans.{cost};
 ghost use Rattle.diagram.proofs.Checked.{Passed};
 ghost use Rattle.sweep.specs.Drops.{LargestFailing};
-ghost use Rattle.search.specs.State.{rows, Arrays, Arranged, Explored};
+ghost use Rattle.search.specs.State.{rows, Arrays, Ordered, Arranged, Explored};
 
 // Every position by its own number, to be picked from.
 const POSITIONS: [u64; 64] = [
@@ -166,17 +166,6 @@ fn arrange(
     ensures { λ _. ⌜ ((percent : ℕ) → LargestFailing (tableOf (now (file .entry))) percent failing → Explored (tableOf (now (file .entry))) percent budget failing (now (plan .entry)) (now (best .exit)) (now (tally .exit))) ⌝ }
 {
     let marks = marks_by_position(file, plan);
-    let mut values = [0u64; 256];
-    values_of(
-        n,
-        positions,
-        high,
-        low,
-        high_arcs,
-        low_arcs,
-        &marks,
-        &mut values,
-    );
     let mut order = [0u16; 512];
     let mut ends = [0u16; 256];
     order_records(
@@ -193,15 +182,79 @@ fn arrange(
     weigh_arcs(n, positions, &marks, high_arcs, low_arcs, &mut weights);
     let mut arcs = [0u64; 512];
     pick_arcs(starts[n] as usize, &sources, &weights, &mut arcs);
+    evaluate(
+        file,
+        plan,
+        budget,
+        failing,
+        best,
+        tally,
+        n,
+        weight,
+        positions,
+        high,
+        low,
+        high_arcs,
+        low_arcs,
+        &marks,
+        &ends,
+        &order,
+        &starts,
+        &sources,
+        &arcs,
+    )
+}
+
+// Values the nodes under the plan, and begins the search. The arrays hold the file's table and the plan, in order, as `arrange` leaves them.
+fn evaluate(
+    file: &[u8],
+    plan: &[u8],
+    budget: u32,
+    failing: u64,
+    best: &mut [u8; 20],
+    tally: &mut [u64; 3],
+    n: usize,
+    weight: u64,
+    positions: &[u8; 256],
+    high: &[u8; 256],
+    low: &[u8; 256],
+    high_arcs: &[u64; 256],
+    low_arcs: &[u64; 256],
+    marks: &[u8; 64],
+    ends: &[u16; 256],
+    order: &[u16; 512],
+    starts: &[u16; 256],
+    sources: &[u16; 512],
+    arcs: &[u64; 512],
+)
+    requires passed { ⌜ Passed (now file) ⌝ }
+    requires plan { ⌜ (length (now plan) ≡ choiceCount (tableOf (now file) .variables)) × ((i : ℕ) → getD (now plan) i 0 ≤ 2) ⌝ }
+    requires failing { ⌜ (failing ≤ 2 ^ 56) × (budget ≤ 20) × ((percent : ℕ) × LargestFailing (tableOf (now file)) percent failing) ⌝ }
+    requires sizes { ⌜ (length (now best) ≡ 20) × (length (now tally) ≡ 3) ⌝ }
+    requires arrays { ⌜ Arrays (now file) n weight (now positions) (now high) (now low) (now «high_arcs») (now «low_arcs») ⌝ }
+    requires ordered { ⌜ Ordered (now file) (now plan) n (now positions) (now high) (now low) (now «high_arcs») (now «low_arcs») (now marks) (now ends) (record { order = now order; starts = now starts; sources = now sources; arcs = now arcs }) ⌝ }
+    ensures { λ _. ⌜ ((percent : ℕ) → LargestFailing (tableOf (now (file .entry))) percent failing → Explored (tableOf (now (file .entry))) percent budget failing (now (plan .entry)) (now (best .exit)) (now (tally .exit))) ⌝ }
+{
+    let mut values = [0u64; 256];
+    values_of(
+        n,
+        positions,
+        high,
+        low,
+        high_arcs,
+        low_arcs,
+        marks,
+        &mut values,
+    );
     let mut losses = [0u64; 256];
     weigh_losses(
         n,
         positions,
-        &marks,
+        marks,
         low,
         low_arcs,
         &values,
-        &order,
+        order,
         &mut losses,
     );
     let bound = weight * value_of(&values, Node::of_record(n - 1));
@@ -214,11 +267,11 @@ fn arrange(
         tally,
         weight,
         bound,
-        &ends,
-        &order,
-        &starts,
-        &sources,
-        &arcs,
+        ends,
+        order,
+        starts,
+        sources,
+        arcs,
         &losses,
     )
 }

@@ -1,0 +1,110 @@
+-- `evaluate` meets its contract: with the values of the nodes, what is laid out is ready for a search from the plan. Assumes nothing.
+use Prim.Native.Nat.{_+_, _*_, _≤_}
+use native.Mathlib.Omega.{arith}
+use mathlib.Core.Path.{_≡_, refl}
+use lib.ListN.{replicate}
+use Rattle.diagram.specs.Table.{sequence, tableOf}
+use Rattle.diagram.specs.Plans.{openTaken, upperBound}
+use Rattle.reading.proofs.Accepted.{passed-variables, passed-monotone}
+use Rattle.scoring.specs.Value.{value}
+use Rattle.scoring.specs.Passes.{over, Marked}
+use Rattle.scoring.proofs.Bounding.{records-few, root-bound, top-fits}
+use Rattle.scoring.proofs.Passing.{position-within}
+use Rattle.layers.proofs.Arranging.{nodes-few, losses-fit, layered}
+use Rattle.search.proofs.Starting.{arrays-marked, ending}
+use borrow.Author.Needs.{needs}
+use Rattle.search.proofs.explore.evaluate.Statement.{statement}
+use Rattle.search.proofs.explore.evaluate.Tie as tie
+
+-- there are records, and few
+few : (c : tie.Start) → (1 ≤ c .args .n) × (c .args .n ≤ 254)
+few c =
+    let r = records-few (c .pre .0) _ (c .pre .1 .1 .1 .1 .0 .size) in
+    (r .0, omega (arith, r .1))
+
+-- the arrays hold the table and the plan
+marked : (c : tie.Start) →
+    let a = c .args in
+    Marked (tableOf (a .file .now)) (a .plan .now) (a .n) (a .positions .now) (a .high .now) (a .low .now) (a .high-arcs .now) (a .low-arcs .now) (a .marks .now)
+marked c =
+    let pre = c .pre in
+    arrays-marked (pre .0) (pre .1 .1 .1 .1 .0) (pre .1 .0) (pre .1 .1 .1 .1 .1 .marking)
+
+values-of-requires : tie.Need-values-of-requires
+values-of-requires c κs = ((_, _, marked (c .before .before .before)), refl)
+
+-- the values of the nodes
+values : (c : tie.After-values-of) →
+    let a = c .before .before .before .before .args in
+    c .values-of .last .1 .1 .1 .1 .1 .1 .1 .0 ≡ over (sequence (value (tableOf (a .file .now)) (openTaken (a .plan .now))) 0 (a .n + 2)) (replicate 256 0)
+values c = c .values-of .ensures _ _ (marked (c .before .before .before .before))
+
+weigh-losses-requires : tie.Need-weigh-losses-requires
+weigh-losses-requires c κs =
+    let start = c .before .before .before .before .before .before in
+    let m = marked start in
+    let monotone = passed-monotone (start .pre .0) in
+    let n = few start in
+    let o = start .pre .1 .1 .1 .1 .1 .nodes in
+    ((n .1, refl, position-within m, nodes-few m monotone (n .0) o), losses-fit m monotone (n .0) o (values (c .before .before)))
+
+sub-of-record : tie.Need-sub-of-record
+sub-of-record c = few (c .before .before .before .before .before .before .before .before) .0
+
+of-record-requires : tie.Need-of-record-requires
+of-record-requires c κs = omega (arith, few (c .before .before .before .before .before .before .before .before))
+
+value-of-requires : tie.Need-value-of-requires
+value-of-requires c κs = search needs
+
+-- the bound of the plan
+bound : (c : tie.After-value-of) →
+    let a = c .before .before .before .before .before .before .before .before .before .before .args in
+    a .weight * c .value-of .result ≡ upperBound (tableOf (a .file .now)) (a .plan .now)
+bound c =
+    let start = c .before .before .before .before .before .before .before .before .before .before in
+    root-bound (marked start) _ (few start .0) (values (c .before .before .before .before .before .before)) (c .before .of-record .ensures) (start .pre .1 .1 .1 .1 .0 .weighs) (c .value-of .ensures)
+
+mul-bound : tie.Need-mul-bound
+mul-bound c = record { fits = rw (bound c) (omega (arith, top-fits (marked (c .before .before .before .before .before .before .before .before .before .before)))) }
+
+first-visit-requires : tie.Need-first-visit-requires
+first-visit-requires c κs =
+    let start = c .before .before .before .before .before .before .before .before .before .before .before .before .before in
+    let pre = start .pre in
+    let m = marked start in
+    let laid = pre .1 .1 .1 .1 .1 in
+    let w = laid .weighed in (
+      pre .0,
+      (
+        pre .1 .0,
+        (
+          pre .1 .1 .0,
+          (
+            pre .1 .1 .1 .0,
+            record {
+              weighs = pre .1 .1 .1 .1 .0 .weighs;
+              top = bound (c .before .before .before);
+              layered = layered m (passed-monotone (pre .0)) (few start .0) (laid .nodes) (values (c .before .before .before .before .before .before .before .before .before)) (laid .sourced) (laid .started) (w .2) (w .3) (w .4) (c .before .before .before .before .before .before .weigh-losses .ensures);
+              ending = ending m refl (laid .nodes) (passed-variables (pre .0) .0) (laid .ending);
+            },
+          ),
+        ),
+      ),
+    )
+
+returns : tie.Need-returns
+returns c = search needs
+
+pub evaluate-spec : {M : Type 1} → statement M
+evaluate-spec =
+    tie.close
+    (tie.spec
+    values-of-requires
+    weigh-losses-requires
+    sub-of-record
+    of-record-requires
+    value-of-requires
+    mul-bound
+    first-visit-requires
+    returns)
