@@ -39,9 +39,10 @@ pub record Stand (t : Table) (i x : ℕ) : Type 0 where
   pub chosen : isChoice (getD (t .variables) x (chance 0 1)) ≡ true
   pub number : choiceCount (take x (t .variables)) ≡ i
 
--- The layout is that of table t and a search from plan s: the nodes at smaller positions come before, each once, the arcs into a node are the table's,
--- and the loss of an open line's record is what its value falls by
-pub record Layered (t : Table) (s : List ℕ) (l : Layers) (losses : List ℕ) : Type 0 where
+-- The layout is that of table t and a search from plan s, with the nodes in `order`: those at smaller positions come before. What comes to a node is what
+-- the table's arcs bring, of which `high` and `low` say what they bring where the cells of the nodes before are right. The loss of an open line's record
+-- is what its value falls by.
+pub record Layered (t : Table) (s order : List ℕ) (l : Layers) (losses : List ℕ) : Type 0 where
   pub formed : Formed (length (t .variables)) (t .records)
   pub shares : Shares (t .variables)
   pub monotone : Monotone t
@@ -50,11 +51,9 @@ pub record Layered (t : Table) (s : List ℕ) (l : Layers) (losses : List ℕ) :
   pub plan : length s ≡ choiceCount (t .variables)
   pub legal : (i : ℕ) → getD s i 0 ≤ 2
   pub sized : Sized l (length (t .records))
-  pub nodes : (i : ℕ) → i < length (t .records) → ((k : ℕ) × (k < length (t .records)) × (getD (l .order) i 0 ≡ k + 2))
-  pub distinct : (i j : ℕ) → i < length (t .records) → j < length (t .records) → getD (l .order) i 0 ≡ getD (l .order) j 0 → i ≡ j
-  pub earlier : (i k : ℕ) → i < length (t .records) → k < length (t .records) → recordAt (t .records) k .position < place t (getD (l .order) i 0) → ((j : ℕ) × (j < i) × (getD (l .order) j 0 ≡ k + 2))
-  pub inflows : (cells : List ℕ) (i : ℕ) → i < length (t .records) → inflow l cells i ≡ cond (eqb (getD (l .order) i 0) (root t)) (getD cells 1 0) 0 + into (λ k. recordAt (t .records) k .hi) (λ k. recordAt (t .records) k .lo) (λ k. getD cells (k + 2) 0 * highAt t s k) (λ k. getD cells (k + 258) 0 * lowAt t s k) (getD (l .order) i 0) (length (t .records))
-  pub lost : (i k : ℕ) → i < length (t .records) → getD (l .order) i 0 ≡ k + 2 → isChoice (variableAt t k) ≡ true → isOpen s (choiceCount (take (recordAt (t .records) k .position) (t .variables))) ≡ true → getD losses i 0 ≡ value t (openTaken s) (k + 2) - lowArc t k * value t (openTaken s) (recordAt (t .records) k .lo)
+  pub nodes : (i : ℕ) → i < length (t .records) → ((k : ℕ) × (k < length (t .records)) × (getD order i 0 ≡ k + 2))
+  pub inflows : (cells : List ℕ) (high low : ℕ → ℕ) (i : ℕ) → i < length (t .records) → ((j k : ℕ) → j < i → getD order j 0 ≡ k + 2 → (getD cells (j + 2) 0 * highAt t s k ≡ high k) × (getD cells (j + 258) 0 * lowAt t s k ≡ low k)) → inflow l cells i ≡ cond (eqb (getD order i 0) (root t)) (getD cells 1 0) 0 + into (λ k. recordAt (t .records) k .hi) (λ k. recordAt (t .records) k .lo) high low (getD order i 0) (length (t .records))
+  pub lost : (i k : ℕ) → i < length (t .records) → getD order i 0 ≡ k + 2 → isChoice (variableAt t k) ≡ true → isOpen s (choiceCount (take (recordAt (t .records) k .position) (t .variables))) ≡ true → getD losses i 0 ≡ value t (openTaken s) (k + 2) - lowArc t k * value t (openTaken s) (recordAt (t .records) k .lo)
 
 -- The sum of f over n ranks from i on
 unfoldable pub rankSum : (f : ℕ → ℕ) → (i n : ℕ) → ℕ
@@ -68,14 +67,14 @@ atSum t f x (suc k) = atSum t f x k + cond (eqb (recordAt (t .records) k .positi
 
 -- The layer of line d, open in plan s: the nodes before `own` stand before its position, those from `own` to `to` at it, and those from `from` to `own`
 -- are of no line that is open in s
-pub record Line (t : Table) (s : List ℕ) (l : Layers) (from own to d : ℕ) : Type 0 where
+pub record Line (t : Table) (s order : List ℕ) (from own to d : ℕ) : Type 0 where
   pub position : ℕ
   pub stand : Stand t d position
   pub bounds : (from ≤ own) × (own ≤ to) × (to ≤ length (t .records))
-  pub before : (j : ℕ) → j < own → place t (getD (l .order) j 0) < position
-  pub here : (j : ℕ) → own ≤ j → j < to → place t (getD (l .order) j 0) ≡ position
-  pub plain : (j : ℕ) → from ≤ j → j < own → markOf t s (place t (getD (l .order) j 0)) ≡ 0 → ⊥
-  pub covers : (f : ℕ → ℕ) → rankSum (λ j. f (getD (l .order) j 0)) own (to - own) ≡ atSum t f position (length (t .records))
+  pub before : (j : ℕ) → j < own → place t (getD order j 0) < position
+  pub here : (j : ℕ) → own ≤ j → j < to → place t (getD order j 0) ≡ position
+  pub plain : (j : ℕ) → from ≤ j → j < own → markOf t s (place t (getD order j 0)) ≡ 0 → ⊥
+  pub covers : (f : ℕ → ℕ) → rankSum (λ j. f (getD order j 0)) own (to - own) ≡ atSum t f position (length (t .records))
 
 -- ---------------------------------------------------------------------------
 -- The plan visited
@@ -87,12 +86,12 @@ pub record Settles (s p : List ℕ) : Type 0 where
   pub later : (i : ℕ) → lowestOpen p ≤ i → getD p i 0 ≡ getD s i 0
 
 -- The cells of the first i nodes hand on their path weights under the full plan u, along the arcs that are in force
-pub record Right (t : Table) (s u : List ℕ) (l : Layers) (i : ℕ) (cells : List ℕ) : Type 0 where
-  pub high : (j k : ℕ) → j < i → getD (l .order) j 0 ≡ k + 2 → getD cells (k + 2) 0 * highAt t s k ≡ pathWeight t u (k + 2) * highWeight t u k
-  pub low : (j k : ℕ) → j < i → getD (l .order) j 0 ≡ k + 2 → getD cells (k + 258) 0 * lowAt t s k ≡ pathWeight t u (k + 2) * lowWeight t u k
+pub record Right (t : Table) (s u order : List ℕ) (i : ℕ) (cells : List ℕ) : Type 0 where
+  pub high : (j k : ℕ) → j < i → getD order j 0 ≡ k + 2 → getD cells (j + 2) 0 * highAt t s k ≡ pathWeight t u (k + 2) * highWeight t u k
+  pub low : (j k : ℕ) → j < i → getD order j 0 ≡ k + 2 → getD cells (j + 258) 0 * lowAt t s k ≡ pathWeight t u (k + 2) * lowWeight t u k
 
--- The cells of the first i nodes, and that of the root's own arc, are the same
-pub record Same (l : Layers) (i : ℕ) (cells cells′ : List ℕ) : Type 0 where
-  pub high : (j : ℕ) → j < i → getD cells′ (getD (l .order) j 0) 0 ≡ getD cells (getD (l .order) j 0) 0
-  pub low : (j : ℕ) → j < i → getD cells′ (getD (l .order) j 0 + 256) 0 ≡ getD cells (getD (l .order) j 0 + 256) 0
+-- The cells of the first i nodes, and that of the root's weight, are the same
+pub record Same (i : ℕ) (cells cells′ : List ℕ) : Type 0 where
+  pub high : (j : ℕ) → j < i → getD cells′ (j + 2) 0 ≡ getD cells (j + 2) 0
+  pub low : (j : ℕ) → j < i → getD cells′ (j + 258) 0 ≡ getD cells (j + 258) 0
   pub root : getD cells′ 1 0 ≡ getD cells 1 0

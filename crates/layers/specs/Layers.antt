@@ -1,27 +1,26 @@
--- A table laid out for a search, and what a visit does with it. The nodes stand in order of position; a node's place in this order is its rank. Each node
--- m has two cells: cell m has what its hi arc hands on, cell m + 256 what its lo arc hands on, both before the arc's own weight.
+-- A table laid out for a search, and what a visit does with it. The nodes stand in order of position; a node's place in this order is its rank. The node
+-- at rank i has two cells: cell i + 2 has what its hi arc hands on, cell i + 258 what its lo arc hands on, both before the arc's own weight. Cell 1 has
+-- the root's weight.
 use Prim.Native.Nat.{ℕ, zero, suc, _+_, _-_, _*_, _≤_, _<_, _^_}
 use mathlib.Core.Path.{_≡_}
 use mathlib.Core.List.{List}
 use lib.ListN.{length, getD, set}
 
--- By rank: the node, and where the arcs into it begin in the list of all arcs, one node after the other in order. By place in this list: the arc's number
--- and its weight.
+-- By rank: where the arcs into the node begin in the list of all arcs, one node after the other in order. By place in this list: the cell that the arc
+-- starts from, and its weight.
 pub record Layers : Type 0 where
-  pub order : List ℕ
   pub starts : List ℕ
   pub sources : List ℕ
   pub arcs : List ℕ
 
--- The layout of n records is within its arrays
+-- The layout of n records is within its arrays, and the arcs into each node are pairs
 pub record Sized (l : Layers) (n : ℕ) : Type 0 where
   pub few : n ≤ 254
-  pub nodes : (i : ℕ) → i < n → (2 ≤ getD (l .order) i 0) × (getD (l .order) i 0 < 256)
-  pub rising : (i : ℕ) → i < n → getD (l .starts) i 0 ≤ getD (l .starts) (i + 1) 0
-  pub within : (i : ℕ) → i ≤ n → getD (l .starts) i 0 ≤ 512
+  pub pairs : (i : ℕ) → i < n → ((m : ℕ) × (getD (l .starts) (i + 1) 0 ≡ getD (l .starts) i 0 + suc m + suc m))
+  pub within : (i : ℕ) → i ≤ n → getD (l .starts) i 0 ≤ 1024
   pub sources : (j : ℕ) → getD (l .sources) j 0 < 512
 
--- What n arcs from place j on bring: each its source's cell times its weight
+-- What n arcs from place j on bring: each the number in its cell times its weight
 unfoldable pub flowSum : (sources arcs cells : List ℕ) → (j n : ℕ) → ℕ
 flowSum ss ws cells j zero = 0
 flowSum ss ws cells j (suc n) = flowSum ss ws cells j n + getD cells (getD ss (j + n) 0) 0 * getD ws (j + n) 0
@@ -31,13 +30,13 @@ unfoldable pub inflow : Layers → (cells : List ℕ) → (i : ℕ) → ℕ
 inflow l cells i =
     flowSum (l .sources) (l .arcs) cells (getD (l .starts) i 0) (getD (l .starts) (i + 1) 0 - getD (l .starts) i 0)
 
--- The two cells of node m written
-abbrev pub put : (cells : List ℕ) → (m x y : ℕ) → List ℕ
-put cells m x y = set (set cells m x) (m + 256) y
+-- The two cells of the node at rank i written
+abbrev pub put : (cells : List ℕ) → (i x y : ℕ) → List ℕ
+put cells i x y = set (set cells (i + 2) x) (i + 258) y
 
 -- The node at rank i hands on what comes to it, by both arcs
 unfoldable pub passNode : Layers → (i : ℕ) → (cells : List ℕ) → List ℕ
-passNode l i cells = put cells (getD (l .order) i 0) (inflow l cells i) (inflow l cells i)
+passNode l i cells = put cells i (inflow l cells i) (inflow l cells i)
 
 -- n nodes from rank i on, one after the other
 unfoldable pub passNodes : Layers → (i n : ℕ) → (cells : List ℕ) → List ℕ
@@ -46,7 +45,7 @@ passNodes l i (suc n) cells = passNode l (i + n) (passNodes l i n cells)
 
 -- The node at rank i, of a line taken, hands on what comes to it by its hi arc alone
 unfoldable pub ownNode : Layers → (i : ℕ) → (cells : List ℕ) → List ℕ
-ownNode l i cells = put cells (getD (l .order) i 0) (inflow l cells i) 0
+ownNode l i cells = put cells i (inflow l cells i) 0
 
 unfoldable pub ownNodes : Layers → (i n : ℕ) → (cells : List ℕ) → List ℕ
 ownNodes l i zero cells = cells
@@ -59,12 +58,12 @@ dropSum l losses i (suc n) cells =
     dropSum l losses i n cells + inflow l (ownNodes l i n cells) (i + n) * getD losses (i + n) 0
 
 -- The line of the node at rank i is left: what its hi arc has handed on goes by its lo arc
-unfoldable pub leaveNode : (order : List ℕ) → (i : ℕ) → (cells : List ℕ) → List ℕ
-leaveNode ms i cells = put cells (getD ms i 0) 0 (getD cells (getD ms i 0) 0)
+unfoldable pub leaveNode : (i : ℕ) → (cells : List ℕ) → List ℕ
+leaveNode i cells = put cells i 0 (getD cells (i + 2) 0)
 
-unfoldable pub leaveNodes : (order : List ℕ) → (i n : ℕ) → (cells : List ℕ) → List ℕ
-leaveNodes ms i zero cells = cells
-leaveNodes ms i (suc n) cells = leaveNode ms (i + n) (leaveNodes ms i n cells)
+unfoldable pub leaveNodes : (i n : ℕ) → (cells : List ℕ) → List ℕ
+leaveNodes i zero cells = cells
+leaveNodes i (suc n) cells = leaveNode (i + n) (leaveNodes i n cells)
 
 -- The layer of an open line: the ranks from the line before it to its own first record, and from there to the one after its last. All sums fit.
 pub record Enterable (l : Layers) (losses : List ℕ) (n from own to : ℕ) (cells : List ℕ) : Type 0 where

@@ -1,4 +1,4 @@
--- What the arrays of weights and losses hold.
+-- What the arrays of weights, cells and losses hold.
 use Prim.Native.Nat.{ℕ, _+_, _-_, _*_, _<_}
 use mathlib.Core.Path.{_≡_}
 use mathlib.Core.Bool.{cond}
@@ -11,6 +11,13 @@ pub record Weighted (n : ℕ) (high low : ℕ → ℕ) (weights : List ℕ) : Ty
   pub root : getD weights 1 0 ≡ 1
   pub highs : (k : ℕ) → k < n → getD weights (k + 2) 0 ≡ high k
   pub lows : (k : ℕ) → k < n → getD weights (k + 258) 0 ≡ low k
+
+-- The cells of the arcs of n nodes in order, by the arcs' numbers
+pub record Numbered (n : ℕ) (order numbers : List ℕ) : Type 0 where
+  pub root : getD numbers 1 0 ≡ 1
+  pub highs : (i : ℕ) → i < n → getD numbers (getD order i 0) 0 ≡ i + 2
+  pub lows : (i : ℕ) → i < n → getD numbers (getD order i 0 + 256) 0 ≡ i + 258
+  pub few : (a : ℕ) → getD numbers a 0 < 512
 
 -- What leaving its line loses of node m's value, where the line is open, and else 0
 unfoldable pub lossOf : (positions marks low lowArcs values : List ℕ) → (m : ℕ) → ℕ

@@ -10,6 +10,8 @@ pub use order::order_arcs;
 pub use order::order_records;
 pub use walk::enter_layer;
 pub use walk::leave_layer;
+pub use weigh::number_cells;
 pub use weigh::pick_arcs;
+pub use weigh::pick_cells;
 pub use weigh::weigh_arcs;
 pub use weigh::weigh_losses;

@@ -1,5 +1,4 @@
-// The weights of the arcs during a search, and what leaving a line loses at each of its nodes.
-use crate::walk::node_at;
+// The weights of the arcs during a search, the cells that they start from, and what leaving a line loses at each of its nodes.
 use diagram::Node;
 use diagram::Plan;
 use reading::child_of;
@@ -10,12 +9,12 @@ use scoring::value_of;
 ghost use mathlib.Core.Path.{_≡_};
 ghost use mathlib.Core.Bool.{cond};
 ghost use Prim.Native.Nat.{ℕ, _+_, _-_, _*_, _≤_, _<_, _^_};
-ghost use lib.ListN.{length, getD};
+ghost use lib.ListN.{length, getD, set, replicate};
 ghost use lib.Dec.{eqb};
 ghost use Rattle.diagram.specs.Table.{sequence};
 ghost use Rattle.scoring.specs.Passes.{over, highInForce, markAtNode};
 ghost use Rattle.layers.specs.Flows.{lowKept};
-ghost use Rattle.layers.specs.Weighed.{Weighted, lossOf};
+ghost use Rattle.layers.specs.Weighed.{Weighted, Numbered, lossOf};
 
 // The weights of the arcs of the first n records, by the arcs' numbers: 0 where the plan that the search starts from closes
 // the arc. The arc 1, which brings the root its weight, weighs 1. The positions are a table's, and so below 64:
@@ -56,15 +55,54 @@ fn low_kept(mark: u8, arc: u64) -> u64
     if mark == Plan::TAKEN { 0 } else { arc }
 }
 
+// The cells of the arcs of the first n nodes of the order, by the arcs' numbers: `arrange` hands in zeros, and an order in which
+// no node stands twice, as `order_records` leaves it.
+pub fn number_cells(n: usize, order: &[u16; 1024], numbers: &mut [u16; 512])
+    requires nodes { ⌜ (n ≤ 254) × ((i : ℕ) → i < n → (2 ≤ getD (now order) i 0) × (getD (now order) i 0 < 256)) × ((i j : ℕ) → i < n → j < n → getD (now order) i 0 ≡ getD (now order) j 0 → i ≡ j) ⌝ }
+    requires zeros { ⌜ now numbers ≡ replicate 512 0 ⌝ }
+    ensures { λ _. ⌜ Numbered n (now (order .entry)) (now (numbers .exit)) ⌝ }
+{
+    numbers[1] = 1;
+    let mut i = 0;
+    while i < n {
+        let node = node_at(order, i);
+        number_node(numbers, node, i);
+        i += 1;
+    }
+}
+
+// Writes the cells of the arcs of the node at a rank.
+fn number_node(numbers: &mut [u16; 512], node: Node, i: usize)
+    requires { ⌜ (i < 254) × (length (now numbers) ≡ 512) ⌝ }
+    ensures { λ _. ⌜ now (numbers .exit) ≡ set (set (now (numbers .entry)) (node .0) (i + 2)) (node .0 + 256) (i + 258) ⌝ }
+{
+    let m = node.number();
+    numbers[m] = i as u16 + 2;
+    numbers[m + 256] = i as u16 + 258;
+}
+
 // The weights of the first `count` arcs of a list, which has arcs' numbers alone, as `order_arcs` leaves it.
-pub fn pick_arcs(count: usize, sources: &[u16; 512], weights: &[u64; 512], arcs: &mut [u64; 512])
-    requires { ⌜ (count ≤ 512) × (length (now arcs) ≡ 512) × ((j : ℕ) → getD (now sources) j 0 < 512) ⌝ }
-    ensures { λ _. ⌜ now (arcs .exit) ≡ over (sequence (λ (j : ℕ). getD (now (weights .entry)) (getD (now (sources .entry)) j 0) 0) 0 count) (now (arcs .entry)) ⌝ }
+pub fn pick_arcs(count: usize, list: &[u16; 1024], weights: &[u64; 512], arcs: &mut [u64; 1024])
+    requires { ⌜ (count ≤ 1024) × (length (now arcs) ≡ 1024) × ((j : ℕ) → getD (now list) j 0 < 512) ⌝ }
+    ensures { λ _. ⌜ now (arcs .exit) ≡ over (sequence (λ (j : ℕ). getD (now (weights .entry)) (getD (now (list .entry)) j 0) 0) 0 count) (now (arcs .entry)) ⌝ }
 {
     let mut j = 0;
     while j < count {
-        let a = sources[j] as usize;
+        let a = list[j] as usize;
         arcs[j] = weights[a];
+        j += 1;
+    }
+}
+
+// The cells of the first `count` arcs of such a list.
+pub fn pick_cells(count: usize, list: &[u16; 1024], numbers: &[u16; 512], sources: &mut [u16; 1024])
+    requires { ⌜ (count ≤ 1024) × (length (now sources) ≡ 1024) × ((j : ℕ) → getD (now list) j 0 < 512) ⌝ }
+    ensures { λ _. ⌜ now (sources .exit) ≡ over (sequence (λ (j : ℕ). getD (now (numbers .entry)) (getD (now (list .entry)) j 0) 0) 0 count) (now (sources .entry)) ⌝ }
+{
+    let mut j = 0;
+    while j < count {
+        let a = list[j] as usize;
+        sources[j] = numbers[a];
         j += 1;
     }
 }
@@ -78,7 +116,7 @@ pub fn weigh_losses(
     low: &[u8; 256],
     low_arcs: &[u64; 256],
     values: &[u64; 256],
-    order: &[u16; 512],
+    order: &[u16; 1024],
     losses: &mut [u64; 256],
 )
     requires sizes { ⌜ (n ≤ 254) × (length (now losses) ≡ 256) × ((k : ℕ) → getD (now positions) k 0 < 64) × ((i : ℕ) → i < n → getD (now order) i 0 < 256) ⌝ }
@@ -113,4 +151,12 @@ fn loss_of(
     let child = child_of(low, node);
     let left = low_arcs[m] * value_of(values, child);
     value_of(values, node) - left
+}
+
+// The node at a rank. Whoever calls has a rank of the order.
+fn node_at(order: &[u16; 1024], i: usize) -> Node
+    requires { ⌜ (i < 1024) × (getD (now order) i 0 < 256) ⌝ }
+    ensures { λ r. ⌜ r .0 ≡ getD (now (order .entry)) i 0 ⌝ }
+{
+    Node::new(order[i] as u8)
 }

@@ -16,9 +16,9 @@ use Rattle.scoring.specs.Value.{place, gap, highArc, lowArc}
 use Rattle.scoring.specs.Passes.{over, byNode, Decoded, marksByPosition, highInForce, markAtNode}
 use Rattle.sweep.specs.Drops.{LargestFailing}
 use Rattle.rule.specs.Rule.{terms, rule}
-use Rattle.layers.specs.Chains.{pick, joined, placed, arcsInto}
+use Rattle.layers.specs.Chains.{pick, joined, placed, arcsInOrder}
 use Rattle.layers.specs.Layers.{Layers}
-use Rattle.layers.specs.Weighed.{Weighted}
+use Rattle.layers.specs.Weighed.{Weighted, Numbered}
 use Rattle.layers.specs.Flows.{lowKept, Layered, Line, Settles, Right, Same, rankSum, atSum}
 
 -- ---------------------------------------------------------------------------
@@ -88,10 +88,12 @@ ranksOver x c p y d q = ltb y x || eqb x y && (ltb d c || eqb c d && takesFirst 
 -- ---------------------------------------------------------------------------
 -- A visit
 
--- The table and the plan that a search starts from, the percentage, the budget and the largest score that fails, the plan visited, and the best plan held
+-- The table and the plan that a search starts from, the nodes in order of position, the percentage, the budget and the largest score that fails, the plan
+-- visited, and the best plan held
 pub record Scene : Type 0 where
   pub table : Table
   pub start : List ℕ
+  pub order : List ℕ
   pub percent : ℕ
   pub budget : ℕ
   pub failing : ℕ
@@ -102,24 +104,24 @@ pub record Scene : Type 0 where
 pub record Ground (g : Scene) (l : Layers) (losses lines : List ℕ) : Type 0 where
   pub passing : LargestFailing (g .table) (g .percent) (g .failing)
   pub few : choiceCount (g .table .variables) ≤ 20
-  pub layered : Layered (g .table) (g .start) l losses
-  pub layer : (n : ℕ) → n < openCount (g .start) → Line (g .table) (g .start) l (getD lines (n + 1) 0) (getD lines (n + 22) 0) (getD lines n 0) (getD lines (n + 43) 0)
+  pub layered : Layered (g .table) (g .start) (g .order) l losses
+  pub layer : (n : ℕ) → n < openCount (g .start) → Line (g .table) (g .start) (g .order) (getD lines (n + 1) 0) (getD lines (n + 22) 0) (getD lines n 0) (getD lines (n + 43) 0)
 
 -- What is handed to a visit: the plan's marks, its open lines, its room and its bound, and cells that are right before the lowest open line's layer
-pub record Stands (g : Scene) (l : Layers) (lines cells marks : List ℕ) (unsettled room bound : ℕ) : Type 0 where
+pub record Stands (g : Scene) (lines cells marks : List ℕ) (unsettled room bound : ℕ) : Type 0 where
   pub settles : Settles (g .start) (g .plan)
   pub marked : marks ≡ padded (g .plan)
   pub listed : openLines (g .plan) ≡ numbersFrom lines unsettled
   pub few : unsettled ≤ openCount (g .start)
   pub kits : room ≡ g .budget + 1 - cost (g .plan)
   pub top : bound ≡ upperBound (g .table) (g .plan)
-  pub right : Right (g .table) (g .start) (openTaken (g .plan)) l (getD lines unsettled 0) cells
+  pub right : Right (g .table) (g .start) (openTaken (g .plan)) (g .order) (getD lines unsettled 0) cells
   pub rooted : getD cells 1 0 ≡ gap (g .table) 0 (place (g .table) (root (g .table)))
 
 -- All that a visit is handed
 pub record Visitable (g : Scene) (l : Layers) (losses lines cells marks best tally : List ℕ) (unsettled room bound : ℕ) : Type 0 where
   pub ground : Ground g l losses lines
-  pub stands : Stands g l lines cells marks unsettled room bound
+  pub stands : Stands g lines cells marks unsettled room bound
   pub holds : Holds (g .table) (g .budget) (g .failing) (g .held) best tally
 
 -- What the rule leaves of a visit that finds so many visits counted
@@ -128,12 +130,12 @@ ruled g n =
     rule (openCount (g .plan)) (terms (g .table) (g .budget) (g .percent)) (g .plan) (record { held = g .held; visits = n })
 
 -- What a visit leaves: what the rule leaves, the marks as they were, and the cells of the first `from` nodes as they were. The arrays keep their lengths.
-pub record Visited (g : Scene) (l : Layers) (from counted : ℕ) (cells marks cells′ marks′ best′ tally′ : List ℕ) : Type 0 where
+pub record Visited (g : Scene) (from counted : ℕ) (cells marks cells′ marks′ best′ tally′ : List ℕ) : Type 0 where
   pub sizes : (length cells′ ≡ 512) × (length best′ ≡ 20) × (length tally′ ≡ 3)
   pub holds : Holds (g .table) (g .budget) (g .failing) (ruled g counted .held) best′ tally′
   pub counts : getD tally′ 2 0 ≡ ruled g counted .visits
   pub kept : marks′ ≡ marks
-  pub same : Same l from cells cells′
+  pub same : Same from cells cells′
 
 -- ---------------------------------------------------------------------------
 -- The start and the end of a search
@@ -147,30 +149,38 @@ pub record Arrays (s : List ℕ) (n weight : ℕ) (positions high low highArcs l
   pub low-arcs : lowArcs ≡ over (byNode (lowArc (tableOf s)) n) (replicate 256 0)
 
 -- The marks by position, and the nodes and arcs in order, as `arrange` leaves them
-pub record Ordered (s p : List ℕ) (n : ℕ) (positions high low highArcs lowArcs marks ends : List ℕ) (l : Layers) : Type 0 where
+pub record Ordered (s p : List ℕ) (n : ℕ) (positions high low highArcs lowArcs marks ends order : List ℕ) (l : Layers) : Type 0 where
   pub marking : marks ≡ marksByPosition (tableOf s) p
-  pub nodes : l .order ≡ placed (replicate 512 0) 0 (joined (λ x. pick positions 0 x n) (length (tableOf s .variables)))
+  pub nodes : order ≡ placed (replicate 1024 0) 0 (joined (λ x. pick positions 0 x n) (length (tableOf s .variables)))
   pub ending : ends ≡ over (sequence (λ x. length (joined (λ y. pick positions 0 y n) x)) 0 (length (tableOf s .variables) + 1)) (replicate 256 0)
-  pub sourced : l .sources ≡ placed (replicate 512 0) 0 (joined (λ i. arcsInto high low n (getD (l .order) i 0)) n)
-  pub started : l .starts ≡ over (sequence (λ x. length (joined (λ i. arcsInto high low n (getD (l .order) i 0)) x)) 0 (n + 1)) (replicate 256 0)
-  pub weighed : (weights : List ℕ) × (count : ℕ) × Weighted n (λ k. highInForce (markAtNode positions marks k) (getD highArcs (k + 2) 0)) (λ k. lowKept (markAtNode positions marks k) (getD lowArcs (k + 2) 0)) weights × (count ≡ getD (l .starts) n 0) × (l .arcs ≡ over (sequence (λ j. getD weights (getD (l .sources) j 0) 0) 0 count) (replicate 512 0))
+  pub list : List ℕ
+  pub listed : list ≡ placed (replicate 1024 0) 0 (arcsInOrder high low order n n)
+  pub started : l .starts ≡ over (sequence (λ x. length (arcsInOrder high low order n x)) 0 (n + 1)) (replicate 256 0)
+  pub weights : List ℕ
+  pub weighed : Weighted n (λ k. highInForce (markAtNode positions marks k) (getD highArcs (k + 2) 0)) (λ k. lowKept (markAtNode positions marks k) (getD lowArcs (k + 2) 0)) weights
+  pub numbers : List ℕ
+  pub numbered : Numbered n order numbers
+  pub count : ℕ
+  pub all : count ≡ getD (l .starts) n 0
+  pub arcs : l .arcs ≡ over (sequence (λ j. getD weights (getD list j 0) 0) 0 count) (replicate 1024 0)
+  pub sources : l .sources ≡ over (sequence (λ j. getD numbers (getD list j 0) 0) 0 count) (replicate 1024 0)
 
 -- `ends` has how many nodes of the order stand before each position: those before stand there, those from there to the next at it, and those after later
-pub record Ending (t : Table) (l : Layers) (ends : List ℕ) : Type 0 where
+pub record Ending (t : Table) (order ends : List ℕ) : Type 0 where
   pub few : (x : ℕ) → getD ends x 0 < 256
   pub rising : (x y : ℕ) → x ≤ y → y ≤ length (t .variables) → getD ends x 0 ≤ getD ends y 0
   pub within : (x : ℕ) → x ≤ length (t .variables) → getD ends x 0 ≤ length (t .records)
-  pub before : (x j : ℕ) → x ≤ length (t .variables) → j < getD ends x 0 → place t (getD (l .order) j 0) < x
-  pub here : (x j : ℕ) → x < length (t .variables) → getD ends x 0 ≤ j → j < getD ends (x + 1) 0 → place t (getD (l .order) j 0) ≡ x
-  pub after : (x j : ℕ) → x ≤ length (t .variables) → getD ends x 0 ≤ j → j < length (t .records) → x ≤ place t (getD (l .order) j 0)
-  pub sums : (x : ℕ) → x < length (t .variables) → (f : ℕ → ℕ) → rankSum (λ j. f (getD (l .order) j 0)) (getD ends x 0) (getD ends (x + 1) 0 - getD ends x 0) ≡ atSum t f x (length (t .records))
+  pub before : (x j : ℕ) → x ≤ length (t .variables) → j < getD ends x 0 → place t (getD order j 0) < x
+  pub here : (x j : ℕ) → x < length (t .variables) → getD ends x 0 ≤ j → j < getD ends (x + 1) 0 → place t (getD order j 0) ≡ x
+  pub after : (x j : ℕ) → x ≤ length (t .variables) → getD ends x 0 ≤ j → j < length (t .records) → x ≤ place t (getD order j 0)
+  pub sums : (x : ℕ) → x < length (t .variables) → (f : ℕ → ℕ) → rankSum (λ j. f (getD order j 0)) (getD ends x 0) (getD ends (x + 1) 0 - getD ends x 0) ≡ atSum t f x (length (t .records))
 
 -- The arrays hold table t, laid out for a search from plan p, whose bound it is
-pub record Arranged (t : Table) (p : List ℕ) (weight bound : ℕ) (ends : List ℕ) (l : Layers) (losses : List ℕ) : Type 0 where
+pub record Arranged (t : Table) (p : List ℕ) (weight bound : ℕ) (ends order : List ℕ) (l : Layers) (losses : List ℕ) : Type 0 where
   pub weighs : weight ≡ gap t 0 (place t (root t))
   pub top : bound ≡ upperBound t p
-  pub layered : Layered t p l losses
-  pub ending : Ending t l ends
+  pub layered : Layered t p order l losses
+  pub ending : Ending t order ends
 
 -- What a search from plan p leaves is document 01's
 pub record Explored (t : Table) (percent budget failing : ℕ) (p best tally : List ℕ) : Type 0 where

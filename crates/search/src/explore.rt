@@ -5,9 +5,11 @@ use crate::lines::open_lines;
 use crate::visit::visit;
 use diagram::Node;
 use diagram::Plan;
+use layers::number_cells;
 use layers::order_arcs;
 use layers::order_records;
 use layers::pick_arcs;
+use layers::pick_cells;
 use layers::weigh_arcs;
 use layers::weigh_losses;
 use reading::record_count;
@@ -18,6 +20,7 @@ use scoring::value_of;
 use scoring::values_of;
 use sweep::by_choice;
 ghost use mathlib.Core.Path.{_≡_};
+ghost use mathlib.Core.List.{List};
 ghost use Prim.Native.Nat.{ℕ, _+_, _-_, _≤_, _^_};
 ghost use lib.ListN.{length, getD};
 ghost use Rattle.diagram.specs.Table.{tableOf, choiceCount};
@@ -166,7 +169,7 @@ fn arrange(
     ensures { λ _. ⌜ ((percent : ℕ) → LargestFailing (tableOf (now (file .entry))) percent failing → Explored (tableOf (now (file .entry))) percent budget failing (now (plan .entry)) (now (best .exit)) (now (tally .exit))) ⌝ }
 {
     let marks = marks_by_position(file, plan);
-    let mut order = [0u16; 512];
+    let mut order = [0u16; 1024];
     let mut ends = [0u16; 256];
     order_records(
         n,
@@ -175,13 +178,17 @@ fn arrange(
         &mut order,
         &mut ends,
     );
-    let mut sources = [0u16; 512];
+    let mut list = [0u16; 1024];
     let mut starts = [0u16; 256];
-    order_arcs(n, high, low, &order, &mut sources, &mut starts);
+    order_arcs(n, high, low, &order, &mut list, &mut starts);
     let mut weights = [0u64; 512];
     weigh_arcs(n, positions, &marks, high_arcs, low_arcs, &mut weights);
-    let mut arcs = [0u64; 512];
-    pick_arcs(starts[n] as usize, &sources, &weights, &mut arcs);
+    let mut arcs = [0u64; 1024];
+    pick_arcs(starts[n] as usize, &list, &weights, &mut arcs);
+    let mut numbers = [0u16; 512];
+    number_cells(n, &order, &mut numbers);
+    let mut sources = [0u16; 1024];
+    pick_cells(starts[n] as usize, &list, &numbers, &mut sources);
     evaluate(
         file,
         plan,
@@ -222,17 +229,17 @@ fn evaluate(
     low_arcs: &[u64; 256],
     marks: &[u8; 64],
     ends: &[u16; 256],
-    order: &[u16; 512],
+    order: &[u16; 1024],
     starts: &[u16; 256],
-    sources: &[u16; 512],
-    arcs: &[u64; 512],
+    sources: &[u16; 1024],
+    arcs: &[u64; 1024],
 )
     requires passed { ⌜ Passed (now file) ⌝ }
     requires plan { ⌜ (length (now plan) ≡ choiceCount (tableOf (now file) .variables)) × ((i : ℕ) → getD (now plan) i 0 ≤ 2) ⌝ }
     requires failing { ⌜ (failing ≤ 2 ^ 56) × (budget ≤ 20) × ((percent : ℕ) × LargestFailing (tableOf (now file)) percent failing) ⌝ }
     requires sizes { ⌜ (length (now best) ≡ 20) × (length (now tally) ≡ 3) ⌝ }
     requires arrays { ⌜ Arrays (now file) n weight (now positions) (now high) (now low) (now «high_arcs») (now «low_arcs») ⌝ }
-    requires ordered { ⌜ Ordered (now file) (now plan) n (now positions) (now high) (now low) (now «high_arcs») (now «low_arcs») (now marks) (now ends) (record { order = now order; starts = now starts; sources = now sources; arcs = now arcs }) ⌝ }
+    requires ordered { ⌜ Ordered (now file) (now plan) n (now positions) (now high) (now low) (now «high_arcs») (now «low_arcs») (now marks) (now ends) (now order) (record { starts = now starts; sources = now sources; arcs = now arcs }) ⌝ }
     ensures { λ _. ⌜ ((percent : ℕ) → LargestFailing (tableOf (now (file .entry))) percent failing → Explored (tableOf (now (file .entry))) percent budget failing (now (plan .entry)) (now (best .exit)) (now (tally .exit))) ⌝ }
 {
     let mut values = [0u64; 256];
@@ -268,7 +275,6 @@ fn evaluate(
         weight,
         bound,
         ends,
-        order,
         starts,
         sources,
         arcs,
@@ -287,17 +293,16 @@ fn first_visit(
     weight: u64,
     bound: u64,
     ends: &[u16; 256],
-    order: &[u16; 512],
     starts: &[u16; 256],
-    sources: &[u16; 512],
-    arcs: &[u64; 512],
+    sources: &[u16; 1024],
+    arcs: &[u64; 1024],
     losses: &[u64; 256],
 )
     requires passed { ⌜ Passed (now file) ⌝ }
     requires plan { ⌜ (length (now plan) ≡ choiceCount (tableOf (now file) .variables)) × ((i : ℕ) → getD (now plan) i 0 ≤ 2) ⌝ }
     requires failing { ⌜ (failing ≤ 2 ^ 56) × (budget ≤ 20) × ((percent : ℕ) × LargestFailing (tableOf (now file)) percent failing) ⌝ }
     requires sizes { ⌜ (length (now best) ≡ 20) × (length (now tally) ≡ 3) ⌝ }
-    requires arranged { ⌜ Arranged (tableOf (now file)) (now plan) weight bound (now ends) (record { order = now order; starts = now starts; sources = now sources; arcs = now arcs }) (now losses) ⌝ }
+    requires arranged { ⌜ ((order : List ℕ) × Arranged (tableOf (now file)) (now plan) weight bound (now ends) order (record { starts = now starts; sources = now sources; arcs = now arcs }) (now losses)) ⌝ }
     ensures { λ _. ⌜ ((percent : ℕ) → LargestFailing (tableOf (now (file .entry))) percent failing → Explored (tableOf (now (file .entry))) percent budget failing (now (plan .entry)) (now (best .exit)) (now (tally .exit))) ⌝ }
 {
     let places = by_choice(file, &POSITIONS);
@@ -313,7 +318,6 @@ fn first_visit(
     tally[1] = 0;
     tally[2] = 0;
     visit(
-        order,
         starts,
         sources,
         arcs,

@@ -13,13 +13,12 @@ ghost use lib.ListN.{length, getD};
 ghost use Rattle.search.specs.State.{Scene, Visitable, Visited};
 
 // Visits a plan with so many unsettled lines, such room and such a bound, whose marks are handed in, and leaves what is held and
-// counted then; the marks are as before. The first six arrays hold a table laid out for the search, and the cells the path
+// counted then; the marks are as before. The first five arrays hold a table laid out for the search, and the cells the path
 // weights of the nodes before the lowest open line's layer; `first_visit` hands in the first plan.
 pub fn visit(
-    order: &[u16; 512],
     starts: &[u16; 256],
-    sources: &[u16; 512],
-    arcs: &[u64; 512],
+    sources: &[u16; 1024],
+    arcs: &[u64; 1024],
     losses: &[u64; 256],
     lines: &[u8; 64],
     cells: &mut [u64; 512],
@@ -31,9 +30,9 @@ pub fn visit(
     bound: u64,
 )
     requires sizes { ⌜ (length (now cells) ≡ 512) × (length (now marks) ≡ 20) × (length (now best) ≡ 20) × (length (now tally) ≡ 3) ⌝ }
-    requires { ⌜ ((g : Scene) × Visitable g (record { order = now order; starts = now starts; sources = now sources; arcs = now arcs }) (now losses) (now lines) (now cells) (now marks) (now best) (now tally) unsettled room bound) ⌝ }
+    requires { ⌜ ((g : Scene) × Visitable g (record { starts = now starts; sources = now sources; arcs = now arcs }) (now losses) (now lines) (now cells) (now marks) (now best) (now tally) unsettled room bound) ⌝ }
     requires visits { ⌜ getD (now tally) 2 0 + 2 ^ suc unsettled ≤ 2 ^ 63 ⌝ }
-    ensures { λ _. ⌜ ((g : Scene) → Visitable g (record { order = now (order .entry); starts = now (starts .entry); sources = now (sources .entry); arcs = now (arcs .entry) }) (now (losses .entry)) (now (lines .entry)) (now (cells .entry)) (now (marks .entry)) (now (best .entry)) (now (tally .entry)) unsettled room bound → Visited g (record { order = now (order .entry); starts = now (starts .entry); sources = now (sources .entry); arcs = now (arcs .entry) }) (getD (now (lines .entry)) unsettled 0) (getD (now (tally .entry)) 2 0) (now (cells .entry)) (now (marks .entry)) (now (cells .exit)) (now (marks .exit)) (now (best .exit)) (now (tally .exit))) ⌝ }
+    ensures { λ _. ⌜ ((g : Scene) → Visitable g (record { starts = now (starts .entry); sources = now (sources .entry); arcs = now (arcs .entry) }) (now (losses .entry)) (now (lines .entry)) (now (cells .entry)) (now (marks .entry)) (now (best .entry)) (now (tally .entry)) unsettled room bound → Visited g (getD (now (lines .entry)) unsettled 0) (getD (now (tally .entry)) 2 0) (now (cells .entry)) (now (marks .entry)) (now (cells .exit)) (now (marks .exit)) (now (best .exit)) (now (tally .exit))) ⌝ }
 {
     count(tally);
     if goes_back(tally, room, bound) {
@@ -43,20 +42,10 @@ pub fn visit(
         keep(marks, best, tally, room, bound);
         return;
     }
-    let drop = enter_layer(
-        order,
-        starts,
-        sources,
-        arcs,
-        losses,
-        lines,
-        cells,
-        unsettled,
-    );
+    let drop = enter_layer(starts, sources, arcs, losses, lines, cells, unsettled);
     let next = unsettled - 1;
     mark_line(lines, marks, unsettled, Plan::TAKEN);
     visit_taken(
-        order,
         starts,
         sources,
         arcs,
@@ -75,10 +64,9 @@ pub fn visit(
         mark_line(lines, marks, unsettled, Plan::OPEN);
         return;
     }
-    leave_layer(order, lines, cells, unsettled);
+    leave_layer(lines, cells, unsettled);
     mark_line(lines, marks, unsettled, Plan::LEFT);
     visit(
-        order,
         starts,
         sources,
         arcs,
@@ -98,10 +86,9 @@ pub fn visit(
 // Visits a plan with one line more taken. One that costs more than the budget is only counted: it goes back, and there is no need
 // of a call.
 fn visit_taken(
-    order: &[u16; 512],
     starts: &[u16; 256],
-    sources: &[u16; 512],
-    arcs: &[u64; 512],
+    sources: &[u16; 1024],
+    arcs: &[u64; 1024],
     losses: &[u64; 256],
     lines: &[u8; 64],
     cells: &mut [u64; 512],
@@ -113,16 +100,15 @@ fn visit_taken(
     bound: u64,
 )
     requires sizes { ⌜ (length (now cells) ≡ 512) × (length (now marks) ≡ 20) × (length (now best) ≡ 20) × (length (now tally) ≡ 3) ⌝ }
-    requires { ⌜ ((g : Scene) × Visitable g (record { order = now order; starts = now starts; sources = now sources; arcs = now arcs }) (now losses) (now lines) (now cells) (now marks) (now best) (now tally) unsettled room bound) ⌝ }
+    requires { ⌜ ((g : Scene) × Visitable g (record { starts = now starts; sources = now sources; arcs = now arcs }) (now losses) (now lines) (now cells) (now marks) (now best) (now tally) unsettled room bound) ⌝ }
     requires visits { ⌜ getD (now tally) 2 0 + 2 ^ suc unsettled ≤ 2 ^ 63 ⌝ }
-    ensures { λ _. ⌜ ((g : Scene) → Visitable g (record { order = now (order .entry); starts = now (starts .entry); sources = now (sources .entry); arcs = now (arcs .entry) }) (now (losses .entry)) (now (lines .entry)) (now (cells .entry)) (now (marks .entry)) (now (best .entry)) (now (tally .entry)) unsettled room bound → Visited g (record { order = now (order .entry); starts = now (starts .entry); sources = now (sources .entry); arcs = now (arcs .entry) }) (getD (now (lines .entry)) unsettled 0) (getD (now (tally .entry)) 2 0) (now (cells .entry)) (now (marks .entry)) (now (cells .exit)) (now (marks .exit)) (now (best .exit)) (now (tally .exit))) ⌝ }
+    ensures { λ _. ⌜ ((g : Scene) → Visitable g (record { starts = now (starts .entry); sources = now (sources .entry); arcs = now (arcs .entry) }) (now (losses .entry)) (now (lines .entry)) (now (cells .entry)) (now (marks .entry)) (now (best .entry)) (now (tally .entry)) unsettled room bound → Visited g (getD (now (lines .entry)) unsettled 0) (getD (now (tally .entry)) 2 0) (now (cells .entry)) (now (marks .entry)) (now (cells .exit)) (now (marks .exit)) (now (best .exit)) (now (tally .exit))) ⌝ }
 {
     if room == 0 {
         count(tally);
         return;
     }
     visit(
-        order,
         starts,
         sources,
         arcs,
