@@ -30,11 +30,11 @@ use Rattle.layers.specs.Flows.{lowKept, highAt, lowAt, Layered, rankSum,
 use Rattle.layers.proofs.Weights.{weight-step, weight-local, weight-fits, drop-weights}
 
 -- the same cells for more nodes are the same for fewer
-pub same-fewer : {l : Layers} {i j : ℕ} {cells cells′ : List ℕ} → i ≤ j → Same l j cells cells′ → Same l i cells cells′
+pub same-fewer : {i j : ℕ} {cells cells′ : List ℕ} → i ≤ j → Same j cells cells′ → Same i cells cells′
 same-fewer h same =
     record { high = λ k b. same .high k (omega arith); low = λ k b. same .low k (omega arith); root = same .root }
 
-pub same-trans : {l : Layers} {i : ℕ} {a b c : List ℕ} → Same l i a b → Same l i b c → Same l i a c
+pub same-trans : {i : ℕ} {a b c : List ℕ} → Same i a b → Same i b c → Same i a c
 same-trans ab bc =
     record {
       high = λ j h. bc .high j h ∙ ab .high j h;
@@ -43,53 +43,58 @@ same-trans ab bc =
     }
 
 -- cells that are the same hand on the same
-pub right-same : {t : Table} {s u : List ℕ} {l : Layers} {i : ℕ} {cells cells′ : List ℕ} → Same l i cells cells′ → Right t s u l i cells → Right t s u l i cells′
-right-same {t} {s} {u} {l} {i} {cells} {cells′} same right =
+pub right-same : {t : Table} {s u order : List ℕ} {i : ℕ} {cells cells′ : List ℕ} → Same i cells cells′ → Right t s u order i cells → Right t s u order i cells′
+right-same same right =
     record {
-      high = λ j k h e.
-          let cell : getD cells′ (k + 2) 0 ≡ getD cells (k + 2) 0 = rw e at (same .high j h) in
-          rw cell (right .high j k h e);
-      low = λ j k h e.
-          let place : k + 2 + 256 ≡ k + 258 = omega arith in
-          let cell : getD cells′ (k + 258) 0 ≡ getD cells (k + 258) 0 = rw (e, place) at (same .low j h) in
-          rw cell (right .low j k h e);
+      high = λ j k h e. rw (same .high j h) (right .high j k h e);
+      low = λ j k h e. rw (same .low j h) (right .low j k h e);
     }
 
 -- cells that are right for more nodes are right for fewer
-right-fewer : {t : Table} {s u : List ℕ} {l : Layers} {i j : ℕ} {cells : List ℕ} → i ≤ j → Right t s u l j cells → Right t s u l i cells
+right-fewer : {t : Table} {s u order : List ℕ} {i j : ℕ} {cells : List ℕ} → i ≤ j → Right t s u order j cells → Right t s u order i cells
 right-fewer h right = record { high = λ z k b. right .high z k (omega arith); low = λ z k b. right .low z k (omega arith) }
 
 -- ---------------------------------------------------------------------------
 -- Cells
 
--- the node at rank j
-abbrev node : Layers → (j : ℕ) → ℕ
-node l j = getD (l .order) j 0
-
 -- what the two cells of a node hold once they are written, and the others
-module _ (cells : List ℕ) (m x y : ℕ) where
-  put-other : (c : ℕ) → (c ≡ m → ⊥) → (c ≡ m + 256 → ⊥) → getD (put cells m x y) c 0 ≡ getD cells c 0
-  put-other c f g = getD-set-other (set cells m x) (m + 256) c y 0 g ∙ getD-set-other cells m c x 0 f
+module _ (cells : List ℕ) (i x y : ℕ) where
+  put-other : (c : ℕ) → (c ≡ i + 2 → ⊥) → (c ≡ i + 258 → ⊥) → getD (put cells i x y) c 0 ≡ getD cells c 0
+  put-other c f g = getD-set-other (set cells (i + 2) x) (i + 258) c y 0 g ∙ getD-set-other cells (i + 2) c x 0 f
 
-  module _ (long : length cells ≡ 512) (few : m < 256) where
-    put-high : getD (put cells m x y) m 0 ≡ x
-    put-high = getD-set-other (set cells m x) (m + 256) m y 0 (omega arith) ∙ getD-set-same cells m x 0 (omega arith)
+  module _ (few : i < 254) where
+    rank-other : (j : ℕ) → j < 254 → (j ≡ i → ⊥) → (getD (put cells i x y) (j + 2) 0 ≡ getD cells (j + 2) 0) × (getD (put cells i x y) (j + 258) 0 ≡ getD cells (j + 258) 0)
+    rank-other j h f = (put-other (j + 2) (omega (arith, f)) (omega arith), put-other (j + 258) (omega arith) (omega (arith, f)))
 
-    put-low : getD (put cells m x y) (m + 256) 0 ≡ y
-    put-low = getD-set-same (set cells m x) (m + 256) y 0 (simp length-set (omega arith))
+    module _ (long : length cells ≡ 512) where
+      put-high : getD (put cells i x y) (i + 2) 0 ≡ x
+      put-high = getD-set-other (set cells (i + 2) x) (i + 258) (i + 2) y 0 (omega arith) ∙ getD-set-same cells (i + 2) x 0 (omega arith)
+
+      put-low : getD (put cells i x y) (i + 258) 0 ≡ y
+      put-low = getD-set-same (set cells (i + 2) x) (i + 258) y 0 (simp length-set (omega arith))
 
 -- of the cells, those of n nodes from rank i on are written, and no others
-record Wrote (t : Table) (l : Layers) (i n : ℕ) (cells cells′ : List ℕ) : Type 0 where
+record Wrote (i n : ℕ) (cells cells′ : List ℕ) : Type 0 where
   long : length cells′ ≡ 512
   root : getD cells′ 1 0 ≡ getD cells 1 0
-  high : (j : ℕ) → j < length (t .records) → (i ≤ j → j < i + n → ⊥) → getD cells′ (node l j) 0 ≡ getD cells (node l j) 0
-  low : (j : ℕ) → j < length (t .records) → (i ≤ j → j < i + n → ⊥) → getD cells′ (node l j + 256) 0 ≡ getD cells (node l j + 256) 0
+  high : (j : ℕ) → j < 254 → (i ≤ j → j < i + n → ⊥) → getD cells′ (j + 2) 0 ≡ getD cells (j + 2) 0
+  low : (j : ℕ) → j < 254 → (i ≤ j → j < i + n → ⊥) → getD cells′ (j + 258) 0 ≡ getD cells (j + 258) 0
 
-wrote-start : {t : Table} {l : Layers} {i : ℕ} {cells : List ℕ} → length cells ≡ 512 → Wrote t l i 0 cells cells
+wrote-start : {i : ℕ} {cells : List ℕ} → length cells ≡ 512 → Wrote i 0 cells cells
 wrote-start long = record { long = long; root = refl; high = λ j h f. refl; low = λ j h f. refl }
 
+-- one more node's cells
+wrote-next : {i n : ℕ} {cells c : List ℕ} (x y : ℕ) → i + n < 254 → Wrote i n cells c → Wrote i (suc n) cells (put c (i + n) x y)
+wrote-next {i} {n} {cells} {c} x y h w =
+    record {
+      long = simp length-set (w .long);
+      root = put-other c (i + n) x y 1 (omega arith) (omega arith) ∙ w .root;
+      high = λ j b f. rank-other c (i + n) x y h j b (λ e. f (omega arith) (omega arith)) .0 ∙ w .high j b (λ p q. f p (omega arith));
+      low = λ j b f. rank-other c (i + n) x y h j b (λ e. f (omega arith) (omega arith)) .1 ∙ w .low j b (λ p q. f p (omega arith));
+    }
+
 -- what is written comes after the first i nodes
-wrote-same : {t : Table} {l : Layers} {i n : ℕ} {cells cells′ : List ℕ} → i ≤ length (t .records) → Wrote t l i n cells cells′ → Same l i cells cells′
+wrote-same : {i n : ℕ} {cells cells′ : List ℕ} → i ≤ 254 → Wrote i n cells cells′ → Same i cells cells′
 wrote-same h w =
     record {
       high = λ j b. w .high j (omega arith) (λ p q. omega arith);
@@ -97,25 +102,39 @@ wrote-same h w =
       root = w .root;
     }
 
+-- n nodes from rank i on are turned from their hi arcs to their lo arcs
+record Turned (i n : ℕ) (cells cells′ : List ℕ) : Type 0 where
+  wrote : Wrote i n cells cells′
+  high : (j : ℕ) → i ≤ j → j < i + n → getD cells′ (j + 2) 0 ≡ 0
+  low : (j : ℕ) → i ≤ j → j < i + n → getD cells′ (j + 258) 0 ≡ getD cells (j + 2) 0
+
+turned : (i n : ℕ) {cells : List ℕ} → i + n ≤ 254 → length cells ≡ 512 → Turned i n cells (leaveNodes i n cells)
+unfolding leaveNodes leaveNode
+turned i zero h long =
+    record { wrote = wrote-start long; high = λ j a b. absurd (omega arith); low = λ j a b. absurd (omega arith) }
+turned i (suc n) {cells} h long =
+    let w = turned i n (omega arith) long in
+    let z = i + n in
+    let c = leaveNodes i n cells in
+    let y = getD c (z + 2) 0 in
+    record {
+      wrote = wrote-next 0 y (omega arith) (w .wrote);
+      high = λ j a b. ⊎-elim
+          (λ q. rw q (put-high c z 0 y (omega arith) (w .wrote .long)))
+          (λ q. rank-other c z 0 y (omega arith) j (omega arith) (omega arith) .0 ∙ w .high j a q)
+          (eq-or-lt-of-le {n = j} {m = z} (omega arith));
+      low = λ j a b. ⊎-elim
+          (λ q. rw q (put-low c z 0 y (omega arith) (w .wrote .long) ∙ w .wrote .high z (omega arith) (λ a b. omega arith)))
+          (λ q. rank-other c z 0 y (omega arith) j (omega arith) (omega arith) .1 ∙ w .low j a q)
+          (eq-or-lt-of-le {n = j} {m = z} (omega arith));
+    }
+
 -- ---------------------------------------------------------------------------
 -- What comes to a node
 
--- numbers that agree where they count
-cond-same : (x c y z : ℕ) → (x ≡ c → y ≡ z) → cond (eqb x c) y 0 ≡ cond (eqb x c) z 0
-cond-same x c y z f = go (eqb x c) refl
-  where
-    go : (b : Bool) → eqb x c ≡ b → cond b y 0 ≡ cond b z 0
-    go true e = f (eqb-true x c e)
-    go false e = refl
-
-into-same : (high low a b a′ b′ : ℕ → ℕ) (c n : ℕ) → ((k : ℕ) → k < n → high k ≡ c → a k ≡ a′ k) → ((k : ℕ) → k < n → low k ≡ c → b k ≡ b′ k) → into high low a b c n ≡ into high low a′ b′ c n
-unfolding into
-into-same high low a b a′ b′ c zero f g = refl
-into-same high low a b a′ b′ c (suc n) f g =
-    let rest = into-same high low a b a′ b′ c n (λ k h. f k (omega arith)) (λ k h. g k (omega arith)) in
-    let first = cond-same (high n) c (a n) (a′ n) (f n (omega arith)) in
-    let second = cond-same (low n) c (b n) (b′ n) (g n (omega arith)) in
-    omega (arith, rest, first, second)
+-- the node at rank j
+abbrev node : (order : List ℕ) → (j : ℕ) → ℕ
+node order j = getD order j 0
 
 -- the position of record k's node
 place-node : (t : Table) (k : ℕ) → place t (k + 2) ≡ recordAt (t .records) k .position
@@ -124,130 +143,62 @@ place-node t k =
     let e : k + 2 ≡ suc (suc k) = omega arith in
     rw e refl
 
-module _ {t : Table} {s : List ℕ} {l : Layers} {losses : List ℕ} (layered : Layered t s l losses) where
-  -- the cells at other ranks stay as they are
-  rank-other : (c : List ℕ) (x y i j : ℕ) → i < length (t .records) → j < length (t .records) → (j ≡ i → ⊥) → (getD (put c (node l i) x y) (node l j) 0 ≡ getD c (node l j) 0) × (getD (put c (node l i) x y) (node l j + 256) 0 ≡ getD c (node l j + 256) 0)
-  rank-other c x y i j h b f =
-      let here = layered .sized .nodes i h in
-      let there = layered .sized .nodes j b in
-      let apart : node l j ≡ node l i → ⊥ = λ e. f (layered .distinct j i b h e) in
-      (put-other c (node l i) x y (node l j) apart (omega arith), put-other c (node l i) x y (node l j + 256) (omega arith) (λ e. apart (omega arith)))
+module _ {t : Table} {s order : List ℕ} {l : Layers} {losses : List ℕ} (layered : Layered t s order l losses) (u : List ℕ) where
+  -- where the cells of the first i nodes are right, the path weight of the node at rank i comes to it
+  inflow-weight : {i : ℕ} {cells : List ℕ} → i < length (t .records) → getD cells 1 0 ≡ gap t 0 (place t (root t)) → Right t s u order i cells → inflow l cells i ≡ pathWeight t u (node order i)
+  unfolding place
+  inflow-weight {i} {cells} h rooted right =
+      let k = layered .nodes i h in
+      layered .inflows cells (λ k. pathWeight t u (k + 2) * highWeight t u k) (λ k. pathWeight t u (k + 2) * lowWeight t u k) i h (λ j k b e. (right .high j k b e, right .low j k b e))
+      ∙ rw rooted
+      (sym (weight-step t (layered .formed) (layered .shares) (layered .sized .few) u (node order i) (omega (arith, k .2)) (omega (arith, k .1, k .2))))
 
-  -- one more node's cells
-  wrote-next : {i n : ℕ} {cells c : List ℕ} (x y : ℕ) → i + n < length (t .records) → Wrote t l i n cells c → Wrote t l i (suc n) cells (put c (node l (i + n)) x y)
-  wrote-next {i} {n} {cells} {c} x y h w =
-      let here = layered .sized .nodes (i + n) h in
+  -- the cells of one node more are right
+  right-next : {i j : ℕ} {cells : List ℕ} (x y : ℕ) → i < 254 → j ≤ suc i → length cells ≡ 512 → ((k : ℕ) → node order i ≡ k + 2 → (x * highAt t s k ≡ pathWeight t u (k + 2) * highWeight t u k) × (y * lowAt t s k ≡ pathWeight t u (k + 2) * lowWeight t u k)) → Right t s u order i cells → Right t s u order j (put cells i x y)
+  right-next {i} {j} {cells} x y h b long new right =
       record {
-        long = simp length-set (w .long);
-        root = put-other c (node l (i + n)) x y 1 (omega arith) (omega arith) ∙ w .root;
-        high = λ j b f. rank-other c x y (i + n) j h b (λ e. f (omega arith) (omega arith)) .0 ∙ w .high j b (λ p q. f p (omega arith));
-        low = λ j b f. rank-other c x y (i + n) j h b (λ e. f (omega arith) (omega arith)) .1 ∙ w .low j b (λ p q. f p (omega arith));
+        high = λ z k m e. ⊎-elim
+            (λ q.
+            let cell : getD (put cells i x y) (z + 2) 0 ≡ x = rw q (put-high cells i x y h long) in
+            rw cell (new k (rw q at e) .0))
+            (λ q. rw (rank-other cells i x y h z (omega arith) (omega arith) .0) (right .high z k q e))
+            (eq-or-lt-of-le {n = z} {m = i} (omega arith));
+        low = λ z k m e. ⊎-elim
+            (λ q.
+            let cell : getD (put cells i x y) (z + 258) 0 ≡ y = rw q (put-low cells i x y h long) in
+            rw cell (new k (rw q at e) .1))
+            (λ q. rw (rank-other cells i x y h z (omega arith) (omega arith) .1) (right .low z k q e))
+            (eq-or-lt-of-le {n = z} {m = i} (omega arith));
       }
 
-  -- n nodes from rank i on are turned from their hi arcs to their lo arcs
-  record Turned (i n : ℕ) (cells cells′ : List ℕ) : Type 0 where
-    wrote : Wrote t l i n cells cells′
-    high : (j : ℕ) → i ≤ j → j < i + n → getD cells′ (node l j) 0 ≡ 0
-    low : (j : ℕ) → i ≤ j → j < i + n → getD cells′ (node l j + 256) 0 ≡ getD cells (node l j) 0
+  -- n nodes from rank i on have handed on their path weights
+  record Walked (i n : ℕ) (cells cells′ : List ℕ) : Type 0 where
+    wrote : Wrote i n cells cells′
+    right : Right t s u order (i + n) cells′
+    hold : (j : ℕ) → i ≤ j → j < i + n → getD cells′ (j + 2) 0 ≡ pathWeight t u (node order j)
 
-  turned : (i n : ℕ) {cells : List ℕ} → i + n ≤ length (t .records) → length cells ≡ 512 → Turned i n cells (leaveNodes (l .order) i n cells)
-  unfolding leaveNodes leaveNode
-  turned i zero h long =
-      record { wrote = wrote-start long; high = λ j a b. absurd (omega arith); low = λ j a b. absurd (omega arith) }
-  turned i (suc n) {cells} h long =
-      let w = turned i n (omega arith) long in
-      let z = i + n in
-      let c = leaveNodes (l .order) i n cells in
-      let y = getD c (node l z) 0 in
-      let here = layered .sized .nodes z (omega arith) in
-      record {
-        wrote = wrote-next 0 y (omega arith) (w .wrote);
-        high = λ j a b. ⊎-elim
-            (λ q. rw q (put-high c (node l z) 0 y (w .wrote .long) (here .1)))
-            (λ q. rank-other c 0 y z j (omega arith) (omega arith) (omega arith) .0 ∙ w .high j a q)
-            (eq-or-lt-of-le {n = j} {m = z} (omega arith));
-        low = λ j a b. ⊎-elim
-            (λ q. rw q (put-low c (node l z) 0 y (w .wrote .long) (here .1) ∙ w .wrote .high z (omega arith) (λ a b. omega arith)))
-            (λ q. rank-other c 0 y z j (omega arith) (omega arith) (omega arith) .1 ∙ w .low j a q)
-            (eq-or-lt-of-le {n = j} {m = z} (omega arith));
-      }
+  walked-start : {i : ℕ} {cells : List ℕ} → length cells ≡ 512 → Right t s u order i cells → Walked i 0 cells cells
+  walked-start long right =
+      record { wrote = wrote-start long; right = rw add-zero right; hold = λ j a b. absurd (omega arith) }
 
-  module _ (u : List ℕ) where
-    -- where the cells of the first i nodes are right, the path weight of the node at rank i comes to it
-    inflow-weight : {i : ℕ} {cells : List ℕ} → i < length (t .records) → getD cells 1 0 ≡ gap t 0 (place t (root t)) → Right t s u l i cells → inflow l cells i ≡ pathWeight t u (node l i)
-    unfolding place
-    inflow-weight {i} {cells} h rooted right =
-        let here = layered .sized .nodes i h in
-        let k = layered .nodes i h in
-        let terms =
-        into-same (λ k. recordAt (t .records) k .hi) (λ k. recordAt (t .records) k .lo) _ _ _ _ (node l i) (length (t .records))
-        (λ k b e.
-        let before : recordAt (t .records) k .position < place t (node l i) = rw e at (layered .formed .hiLater k) in
-        let rank = layered .earlier i k h b before in
-        right .high (rank .0) k (rank .1) (rank .2))
-        (λ k b e.
-        let before : recordAt (t .records) k .position < place t (node l i) = rw e at (layered .formed .loLater k) in
-        let rank = layered .earlier i k h b before in
-        right .low (rank .0) k (rank .1) (rank .2)) in
-        layered .inflows cells i h
-        ∙ rw (rooted, terms)
-        (sym (weight-step t (layered .formed) (layered .shares) (layered .sized .few) u (node l i) (here .0) (omega (arith, k .1, k .2))))
+  module _ {i n : ℕ} {cells c : List ℕ} (rooted : getD cells 1 0 ≡ gap t 0 (place t (root t))) (h : i + n < length (t .records)) (w : Walked i n cells c) where
+    walked-inflow : inflow l c (i + n) ≡ pathWeight t u (node order (i + n))
+    walked-inflow = inflow-weight h (w .wrote .root ∙ rooted) (w .right)
 
-    -- the cells of one node more are right
-    right-next : {i j : ℕ} {cells : List ℕ} (x y : ℕ) → i < length (t .records) → j ≤ suc i → length cells ≡ 512 → ((k : ℕ) → node l i ≡ k + 2 → (x * highAt t s k ≡ pathWeight t u (k + 2) * highWeight t u k) × (y * lowAt t s k ≡ pathWeight t u (k + 2) * lowWeight t u k)) → Right t s u l i cells → Right t s u l j (put cells (node l i) x y)
-    right-next {i} {j} {cells} x y h b long new right =
-        let here = layered .sized .nodes i h in
+    -- one more: its hi arc is in force, and y is right for its lo arc
+    walked-next : (y : ℕ) → ((k : ℕ) → node order (i + n) ≡ k + 2 → (highAt t s k ≡ highWeight t u k) × (y * lowAt t s k ≡ pathWeight t u (k + 2) * lowWeight t u k)) → Walked i (suc n) cells (put c (i + n) (inflow l c (i + n)) y)
+    walked-next y new =
+        let z = i + n in
+        let x = inflow l c (i + n) in
+        let few : z < 254 = omega (arith, layered .sized .few) in
         record {
-          high = λ z k m e. ⊎-elim
-              (λ q.
-              let at : node l i ≡ k + 2 = rw q at e in
-              let cell : getD (put cells (node l i) x y) (k + 2) 0 ≡ x = rw (← at) (put-high cells (node l i) x y long (here .1)) in
-              rw cell (new k at .0))
-              (λ q.
-              let cell : getD (put cells (node l i) x y) (k + 2) 0 ≡ getD cells (k + 2) 0 = rw (← e) (rank-other cells x y i z h (omega arith) (omega arith) .0) in
-              rw cell (right .high z k q e))
-              (eq-or-lt-of-le {n = z} {m = i} (omega arith));
-          low = λ z k m e. ⊎-elim
-              (λ q.
-              let at : node l i ≡ k + 2 = rw q at e in
-              let number : k + 258 ≡ node l i + 256 = omega arith in
-              let cell : getD (put cells (node l i) x y) (k + 258) 0 ≡ y = rw number (put-low cells (node l i) x y long (here .1)) in
-              rw cell (new k at .1))
-              (λ q.
-              let number : k + 258 ≡ node l z + 256 = omega arith in
-              let cell : getD (put cells (node l i) x y) (k + 258) 0 ≡ getD cells (k + 258) 0 = rw number (rank-other cells x y i z h (omega arith) (omega arith) .1) in
-              rw cell (right .low z k q e))
-              (eq-or-lt-of-le {n = z} {m = i} (omega arith));
+          wrote = wrote-next x y few (w .wrote);
+          right = right-next x y few (omega arith) (w .wrote .long) (λ k e. (rw (walked-inflow, e, new k e .0) refl, new k e .1)) (w .right);
+          hold = λ j a b. ⊎-elim
+              (λ q. rw q (put-high c z x y few (w .wrote .long) ∙ walked-inflow))
+              (λ q. rank-other c z x y few j (omega arith) (omega arith) .0 ∙ w .hold j a q)
+              (eq-or-lt-of-le {n = j} {m = z} (omega arith));
         }
-
-    -- n nodes from rank i on have handed on their path weights
-    record Walked (i n : ℕ) (cells cells′ : List ℕ) : Type 0 where
-      wrote : Wrote t l i n cells cells′
-      right : Right t s u l (i + n) cells′
-      hold : (j : ℕ) → i ≤ j → j < i + n → getD cells′ (node l j) 0 ≡ pathWeight t u (node l j)
-
-    walked-start : {i : ℕ} {cells : List ℕ} → length cells ≡ 512 → Right t s u l i cells → Walked i 0 cells cells
-    walked-start long right =
-        record { wrote = wrote-start long; right = rw add-zero right; hold = λ j a b. absurd (omega arith) }
-
-    module _ {i n : ℕ} {cells c : List ℕ} (rooted : getD cells 1 0 ≡ gap t 0 (place t (root t))) (h : i + n < length (t .records)) (w : Walked i n cells c) where
-      walked-inflow : inflow l c (i + n) ≡ pathWeight t u (node l (i + n))
-      walked-inflow = inflow-weight h (w .wrote .root ∙ rooted) (w .right)
-
-      -- one more: its hi arc is in force, and y is right for its lo arc
-      walked-next : (y : ℕ) → ((k : ℕ) → node l (i + n) ≡ k + 2 → (highAt t s k ≡ highWeight t u k) × (y * lowAt t s k ≡ pathWeight t u (k + 2) * lowWeight t u k)) → Walked i (suc n) cells (put c (node l (i + n)) (inflow l c (i + n)) y)
-      walked-next y new =
-          let z = i + n in
-          let x = inflow l c (i + n) in
-          let here = layered .sized .nodes z h in
-          record {
-            wrote = wrote-next x y h (w .wrote);
-            right = right-next x y h (omega arith) (w .wrote .long) (λ k e. (rw (walked-inflow, e, new k e .0) refl, new k e .1)) (w .right);
-            hold = λ j a b. ⊎-elim
-                (λ q. rw q (put-high c (node l z) x y (w .wrote .long) (here .1) ∙ walked-inflow))
-                (λ q. rank-other c x y z j h (omega arith) (omega arith) .0 ∙ w .hold j a q)
-                (eq-or-lt-of-le {n = j} {m = z} (omega arith));
-          }
 
 -- ---------------------------------------------------------------------------
 -- Plans and weights
@@ -325,7 +276,11 @@ module _ (t : Table) (s : List ℕ) (k : ℕ) where
   unfolding highAt lowAt highInForce lowKept
   open-weights c o = rw (mark-of, c, mark-number t s k, o) (refl, refl)
 
-module _ {t : Table} {s : List ℕ} {l : Layers} {losses : List ℕ} (layered : Layered t s l losses) {p : List ℕ} (settles : Settles s p) {from own to d : ℕ} (line : Line t s l from own to d) (lowest : lowestOpen p ≡ d) (o : isOpen p d ≡ true) (cells : List ℕ) (long : length cells ≡ 512) (rooted : getD cells 1 0 ≡ gap t 0 (place t (root t))) (right : Right t s (openTaken p) l from cells) where
+module _ {t : Table} {s order : List ℕ} {l : Layers} {losses : List ℕ} (layered : Layered t s order l losses) {p : List ℕ} (settles : Settles s p) {from own to d : ℕ} (line : Line t s order from own to d) (lowest : lowestOpen p ≡ d) (o : isOpen p d ≡ true) (cells : List ℕ) (long : length cells ≡ 512) (rooted : getD cells 1 0 ≡ gap t 0 (place t (root t))) (right : Right t s (openTaken p) order from cells) where
+  -- there are few records
+  few : length (t .records) ≤ 254
+  few = layered .sized .few
+
   -- the cells once the layer is entered
   abbrev entered : List ℕ
   entered = ownNodes l own (to - own) (passNodes l from (own - from) cells)
@@ -340,7 +295,7 @@ module _ {t : Table} {s : List ℕ} {l : Layers} {losses : List ℕ} (layered : 
       open-within s d (omega (arith, open-less p d o, settles .size)) (sym (settles .later d (omega arith)) ∙ open-zero p d o)
 
   -- a record of the line
-  module _ (j : ℕ) (a : own ≤ j) (b : j < to) (k : ℕ) (e : node l j ≡ k + 2) where
+  module _ (j : ℕ) (a : own ≤ j) (b : j < to) (k : ℕ) (e : node order j ≡ k + 2) where
     own-position : recordAt (t .records) k .position ≡ line .position
     own-position = sym (place-node t k) ∙ rw e at (line .here j a b)
 
@@ -372,7 +327,7 @@ module _ {t : Table} {s : List ℕ} {l : Layers} {losses : List ℕ} (layered : 
       let come = walked-inflow layered (openTaken p) rooted less w in
       walked-next layered (openTaken p) rooted less w _
       (λ k e.
-      let at : place t (node l (from + n)) ≡ recordAt (t .records) k .position = rw e (place-node t k) in
+      let at : place t (node order (from + n)) ≡ recordAt (t .records) k .position = rw e (place-node t k) in
       let q = plain-weights t s k settles (layered .legal) (rw at at (line .plain (from + n) (omega arith) (omega arith))) in
       (q .0, rw (come, e, q .1) refl))
 
@@ -412,7 +367,7 @@ module _ {t : Table} {s : List ℕ} {l : Layers} {losses : List ℕ} (layered : 
       rw same refl
 
   -- the loss at a record of the line is its shortfall
-  own-loss : (j : ℕ) → own ≤ j → j < to → (k : ℕ) → node l j ≡ k + 2 → getD losses j 0 ≡ shortfall t p d k
+  own-loss : (j : ℕ) → own ≤ j → j < to → (k : ℕ) → node order j ≡ k + 2 → getD losses j 0 ≡ shortfall t p d k
   unfolding shortfall isOf place
   own-loss j a b k e =
       let at = own-position j a b k e in
@@ -425,13 +380,13 @@ module _ {t : Table} {s : List ℕ} {l : Layers} {losses : List ℕ} (layered : 
   abbrev lostAt : (m : ℕ) → ℕ
   lostAt m = pathWeight t (openTaken p) m * shortfall t p d (m - 2)
 
-  dropped : (n : ℕ) → own + n ≤ to → dropSum l losses own n base ≡ rankSum (λ j. lostAt (node l j)) own n
+  dropped : (n : ℕ) → own + n ≤ to → dropSum l losses own n base ≡ rankSum (λ j. lostAt (node order j)) own n
   unfolding dropSum rankSum
   dropped zero h = refl
   dropped (suc n) h =
       let less : own + n < length (t .records) = omega (arith, line .bounds) in
       let k = layered .nodes (own + n) less in
-      let number : node l (own + n) - 2 ≡ k .0 = omega (arith, k .2) in
+      let number : node order (own + n) - 2 ≡ k .0 = omega (arith, k .2) in
       let loss = own-loss (own + n) (omega arith) (omega arith) (k .0) (k .2) in
       rw (dropped n (omega arith), walked-inflow layered (openTaken p) base-rooted less (owned n (omega arith)), loss, number) refl
 
@@ -500,15 +455,15 @@ module _ {t : Table} {s : List ℕ} {l : Layers} {losses : List ℕ} (layered : 
   entered-drop = drop-sum
 
   -- the cells are right up to the end of the layer, and before the layer as they were
-  pub entered-right : Right t s (openTaken p) l to entered
+  pub entered-right : Right t s (openTaken p) order to entered
   entered-right =
       let all : own + (to - own) ≡ to = omega (arith, line .bounds) in
       rw all at (entered-walked .right)
 
-  pub entered-same : Same l from cells entered
+  pub entered-same : Same from cells entered
   entered-same =
-      let first = wrote-same (omega (arith, line .bounds)) (base-walked .wrote) in
-      let second = wrote-same (omega (arith, line .bounds)) (entered-walked .wrote) in
+      let first = wrote-same (omega (arith, line .bounds, few)) (base-walked .wrote) in
+      let second = wrote-same (omega (arith, line .bounds, few)) (entered-walked .wrote) in
       same-trans first (same-fewer (line .bounds .0) second)
 
   pub entered-long : length entered ≡ 512
@@ -528,24 +483,23 @@ module _ {t : Table} {s : List ℕ} {l : Layers} {losses : List ℕ} (layered : 
       (sym (getD-set-other (openTaken p) d _ 2 0 (omega (arith, line .stand .number)))))
 
   -- nor any path weight up to there
-  path-same : (j k : ℕ) → j < to → node l j ≡ k + 2 → pathWeight t (openTaken p) (k + 2) ≡ pathWeight t (openTaken (set p d 2)) (k + 2)
+  path-same : (j k : ℕ) → j < to → node order j ≡ k + 2 → pathWeight t (openTaken p) (k + 2) ≡ pathWeight t (openTaken (set p d 2)) (k + 2)
   path-same j k h e =
       let less : j < length (t .records) = omega (arith, line .bounds) in
       let here = layered .nodes j less in
-      let place-le : place t (node l j) ≤ line .position = by-cases (decLt j own) (λ b. le-of-lt (line .before j b)) (λ f. le-of-eq (line .here j (omega (arith, f)) h)) in
+      let place-le : place t (node order j) ≤ line .position = by-cases (decLt j own) (λ b. le-of-lt (line .before j b)) (λ f. le-of-eq (line .here j (omega (arith, f)) h)) in
       weight-local t (layered .formed) (layered .shares) (layered .sized .few) (openTaken p) (openTaken (set p d 2)) (line .position) (λ k b q. before-weights k q) (k + 2) (omega arith) (omega (arith, here .1, here .2)) (rw e at place-le)
 
   -- cells that are the same up to the end of the layer are right for the line left, once it is left
-  module _ (cells′ : List ℕ) (long′ : length cells′ ≡ 512) (same : Same l to entered cells′) where
-    turned-all : Turned layered own (to - own) cells′ (leaveNodes (l .order) own (to - own) cells′)
-    turned-all = turned layered own (to - own) (omega (arith, line .bounds)) long′
+  module _ (cells′ : List ℕ) (long′ : length cells′ ≡ 512) (same : Same to entered cells′) where
+    turned-all : Turned own (to - own) cells′ (leaveNodes own (to - own) cells′)
+    turned-all = turned own (to - own) (omega (arith, line .bounds, few)) long′
 
-    turned-same : Same l own cells′ (leaveNodes (l .order) own (to - own) cells′)
-    turned-same = wrote-same (omega (arith, line .bounds)) (turned-all .wrote)
+    turned-same : Same own cells′ (leaveNodes own (to - own) cells′)
+    turned-same = wrote-same (omega (arith, line .bounds, few)) (turned-all .wrote)
 
-    pub left-right : Right t s (openTaken (set p d 2)) l to (leaveNodes (l .order) own (to - own) cells′)
+    pub left-right : Right t s (openTaken (set p d 2)) order to (leaveNodes own (to - own) cells′)
     left-right =
-        let c = leaveNodes (l .order) own (to - own) cells′ in
         let before = right-same (same-trans (same-fewer (line .bounds .1) same) turned-same) (right-fewer (line .bounds .1) entered-right) in
         record {
           high = λ j k h e. by-cases (decLt j own)
@@ -554,21 +508,19 @@ module _ {t : Table} {s : List ℕ} {l : Layers} {losses : List ℕ} (layered : 
               before .high j k b e ∙ rw (path-same j k h e, before-weights k at .0) refl)
               (λ f.
               let a : own ≤ j = omega (arith, f) in
-              let cell : getD c (k + 2) 0 ≡ 0 = rw e at (turned-all .high j a (omega arith)) in
-              rw (cell, own-left j a h k e .0) (omega arith));
+              rw (turned-all .high j a (omega arith), own-left j a h k e .0) (omega arith));
           low = λ j k h e. by-cases (decLt j own)
               (λ b.
               let at : recordAt (t .records) k .position < line .position = rw (e, place-node t k) at (line .before j b) in
               before .low j k b e ∙ rw (path-same j k h e, before-weights k at .1) refl)
               (λ f.
               let a : own ≤ j = omega (arith, f) in
-              let number : k + 258 ≡ node l j + 256 = omega arith in
-              let cell : getD c (k + 258) 0 ≡ pathWeight t (openTaken (set p d 2)) (k + 2) = rw number (turned-all .low j a (omega arith) ∙ same .high j h ∙ entered-walked .hold j a (omega arith) ∙ rw e (path-same j k h e)) in
-              rw (cell, own-arcs j a h k e .1, own-left j a h k e .1) refl);
+              let held : getD entered (j + 2) 0 ≡ pathWeight t (openTaken (set p d 2)) (k + 2) = entered-walked .hold j a (omega arith) ∙ rw e (path-same j k h e) in
+              rw (turned-all .low j a (omega arith), same .high j h, held, own-arcs j a h k e .1, own-left j a h k e .1) refl);
         }
 
-    pub left-same : Same l own cells′ (leaveNodes (l .order) own (to - own) cells′)
+    pub left-same : Same own cells′ (leaveNodes own (to - own) cells′)
     left-same = turned-same
 
-    pub left-long : length (leaveNodes (l .order) own (to - own) cells′) ≡ 512
+    pub left-long : length (leaveNodes own (to - own) cells′) ≡ 512
     left-long = turned-all .wrote .long

@@ -20,9 +20,9 @@ use Rattle.reading.proofs.Pairing.{column-at}
 use Rattle.scoring.specs.Value.{place}
 use Rattle.scoring.specs.Passes.{over}
 use Rattle.scoring.proofs.Over.{over-sequence-at}
-use Rattle.layers.specs.Chains.{pick, joined, placed, rootArc, arcsInto}
+use Rattle.layers.specs.Chains.{pick, joined, placed, rootArc, arcsInto, arcsInOrder}
 use Rattle.layers.specs.Flows.{rankSum, atSum}
-use Rattle.layers.proofs.Joining.{placed-at, listSum, rank-list, joined-suc, joined-mono, joined-at, joined-append, Stands, joined-find, pick-sum, pick-at, pick-find, pick-distinct, hits, hits-most, hits-once, picked-all, sum-ones, sum-most}
+use Rattle.layers.proofs.Joining.{placed-at, listSum, rank-list, joined-suc, joined-mono, joined-at, joined-append, Stands, joined-find, pick-sum, pick-at, pick-find, pick-distinct, hits, hits-most, hits-once, picked-all, sum-ones, sum-most, paired-most}
 
 -- The nodes at each position, the highest number first
 abbrev pub nodesAt : (positions : List ℕ) → (n : ℕ) → ℕ → List ℕ
@@ -58,7 +58,7 @@ at-sum t ps f x zero e = refl
 at-sum t ps f x (suc k) e =
     rw (pick-sum ps 0 x f k, e k (le-refl _), zero-add, at-sum t ps f x k (λ j l. e j (omega arith))) refl
 
-module _ (t : Table) (formed : Formed (length (t .variables)) (t .records)) (few : length (t .records) ≤ 254) (short : length (t .variables) < 64) {ps order ends : List ℕ} (positions : ps ≡ column (length (t .variables)) (λ (r : Record). r .position) (t .records)) (eo : order ≡ placed (replicate 512 0) 0 (joined (nodesAt ps (length (t .records))) (length (t .variables)))) (ee : ends ≡ over (sequence (λ x. length (joined (nodesAt ps (length (t .records))) x)) 0 (length (t .variables) + 1)) (replicate 256 0)) where
+module _ (t : Table) (formed : Formed (length (t .variables)) (t .records)) (few : length (t .records) ≤ 254) (short : length (t .variables) < 64) {ps order ends : List ℕ} (positions : ps ≡ column (length (t .variables)) (λ (r : Record). r .position) (t .records)) (eo : order ≡ placed (replicate 1024 0) 0 (joined (nodesAt ps (length (t .records))) (length (t .variables)))) (ee : ends ≡ over (sequence (λ x. length (joined (nodesAt ps (length (t .records))) x)) 0 (length (t .variables) + 1)) (replicate 256 0)) where
   -- the records' number, the number of variables, the nodes at each position, and how many stand before it
   abbrev N : ℕ
   N = length (t .records)
@@ -91,7 +91,7 @@ module _ (t : Table) (formed : Formed (length (t .variables)) (t .records)) (few
       picked-all ps 0 (λ x. x) count N ∙ sum-ones _ N (λ k h. hits-once (getD ps (k + 2) 0) count (position-below k h))
 
   order-is : (i : ℕ) → getD order i 0 ≡ getD (joined lists count) i 0
-  order-is i = rw eo (placed-at 512 (joined lists count) (omega (arith, all-nodes)) i)
+  order-is i = rw eo (placed-at 1024 (joined lists count) (omega (arith, all-nodes)) i)
 
   ends-is : (x : ℕ) → x ≤ count → getD ends x 0 ≡ before x
   ends-is x h = rw ee (over-sequence-at (λ y. length (joined (nodesAt ps (length (t .records))) y)) (replicate 256 0) (count + 1) x (omega arith))
@@ -203,5 +203,6 @@ module _ (t : Table) (formed : Formed (length (t .variables)) (t .records)) (few
       (rank-list (λ j. f (getD order j 0)) f (lists x) (before x) (λ j l. ap f (order-is _ ∙ joined-at lists x count h j l)) ∙ at-sum t ps f x N position-is)
 
   -- all arcs into nodes find room
-  pub arcs-room : (hs ls : List ℕ) → length (joined (λ i. arcsInto hs ls (length (t .records)) (getD order i 0)) (length (t .records))) ≤ 512
-  arcs-room hs ls = omega (arith, arcs-few (λ i. getD order i 0) N hs ls N order-distinct)
+  pub arcs-room : (hs ls : List ℕ) → length (arcsInOrder hs ls order (length (t .records)) (length (t .records))) ≤ 1024
+  arcs-room hs ls =
+      omega (arith, arcs-few (λ i. getD order i 0) N hs ls N order-distinct, paired-most (λ i. arcsInto hs ls N (getD order i 0)) N)

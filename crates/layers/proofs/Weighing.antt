@@ -38,10 +38,11 @@ module _ (f : ℕ → ℕ) (old : List ℕ) where
 
 -- the arcs of the first k records, and the root's own
 module _ (high low : ℕ → ℕ) where
-  pub weigh-none : (cells : List ℕ) → length cells ≡ 512 → Weighted 0 high low (set cells 1 1)
+  pub weigh-none : (cells : List ℕ) → length cells ≡ 512 → Weighted 0 high low (set (set cells 0 0) 1 1)
   weigh-none cells e =
       record {
-        root = getD-set-same cells 1 1 0 (omega arith);
+        none = getD-set-other (set cells 0 0) 1 0 1 0 (omega arith) ∙ getD-set-same cells 0 0 0 (omega arith);
+        root = getD-set-same (set cells 0 0) 1 1 0 (simp length-set (omega arith));
         highs = λ k h. absurd (omega arith);
         lows = λ k h. absurd (omega arith);
       }
@@ -50,6 +51,10 @@ module _ (high low : ℕ → ℕ) where
   weigh-next {k} {x} {y} {cells} few size w ex ey =
       let size′ : length (set cells (k + 2) x) ≡ 512 = simp length-set size in
       record {
+        none =
+            getD-set-other (set cells (k + 2) x) (k + 258) 0 y 0 (omega arith)
+            ∙ getD-set-other cells (k + 2) 0 x 0 (omega arith)
+            ∙ w .none;
         root =
             getD-set-other (set cells (k + 2) x) (k + 258) 1 y 0 (omega arith)
             ∙ getD-set-other cells (k + 2) 1 x 0 (omega arith)

@@ -6,8 +6,9 @@ use mathlib.Core.List.{List}
 use lib.ListN.{length, getD}
 use lib.Dec.{eqb}
 
--- The weights of the arcs of n records, by the arcs' numbers: the hi arcs', the lo arcs', and 1 for the root's own
+-- The weights of the arcs of n records, by the arcs' numbers: the hi arcs', the lo arcs', 1 for the root's own, and 0 for the number that no arc has
 pub record Weighted (n : ℕ) (high low : ℕ → ℕ) (weights : List ℕ) : Type 0 where
+  pub none : getD weights 0 0 ≡ 0
   pub root : getD weights 1 0 ≡ 1
   pub highs : (k : ℕ) → k < n → getD weights (k + 2) 0 ≡ high k
   pub lows : (k : ℕ) → k < n → getD weights (k + 258) 0 ≡ low k

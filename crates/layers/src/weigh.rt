@@ -17,7 +17,7 @@ ghost use Rattle.layers.specs.Flows.{lowKept};
 ghost use Rattle.layers.specs.Weighed.{Weighted, Numbered, lossOf};
 
 // The weights of the arcs of the first n records, by the arcs' numbers: 0 where the plan that the search starts from closes
-// the arc. The arc 1, which brings the root its weight, weighs 1. The positions are a table's, and so below 64:
+// the arc. The arc 1, which brings the root its weight, weighs 1, and the number 0, which no arc has, 0. The positions are a table's, and so below 64:
 // the search hands in an accepted table's.
 pub fn weigh_arcs(
     n: usize,
@@ -30,6 +30,7 @@ pub fn weigh_arcs(
     requires { ⌜ (n ≤ 254) × ((k : ℕ) → getD (now positions) k 0 < 64) × (length (now weights) ≡ 512) ⌝ }
     ensures { λ _. ⌜ Weighted n (λ (k : ℕ). highInForce (markAtNode (now (positions .entry)) (now (marks .entry)) k) (getD (now («high_arcs» .entry)) (k + 2) 0)) (λ (k : ℕ). lowKept (markAtNode (now (positions .entry)) (now (marks .entry)) k) (getD (now («low_arcs» .entry)) (k + 2) 0)) (now (weights .exit)) ⌝ }
 {
+    weights[0] = 0;
     weights[1] = 1;
     let mut k = 0;
     while k < n {

@@ -36,6 +36,9 @@ mark c = rw (c .mark-of .ensures, c .before .of-record .ensures)
 element-write-weights : tie.Need-element-write-weights Inv-loop μ-loop
 element-write-weights c = omega arith
 
+element-write-weights-2 : tie.Need-element-write-weights-2 Inv-loop μ-loop
+element-write-weights-2 c = omega arith
+
 loop-holds : tie.Need-loop-holds Inv-loop μ-loop
 loop-holds c = (omega arith, simp length-set (c .pre .2), weigh-none _ _ (c .args .weights .now) (c .pre .2))
 
@@ -63,8 +66,8 @@ add-weights c = omega arith
 mul-weights : tie.Need-mul-weights Inv-loop μ-loop
 mul-weights c = omega arith
 
-element-write-weights-2 : tie.Need-element-write-weights-2 Inv-loop μ-loop
-element-write-weights-2 c = omega arith
+element-write-weights-3 : tie.Need-element-write-weights-3 Inv-loop μ-loop
+element-write-weights-3 c = omega arith
 
 add-low-kept : tie.Need-add-low-kept Inv-loop μ-loop
 add-low-kept c = omega arith
@@ -84,8 +87,8 @@ add-weights-2 c = omega arith
 mul-weights-2 : tie.Need-mul-weights-2 Inv-loop μ-loop
 mul-weights-2 c = omega arith
 
-element-write-weights-3 : tie.Need-element-write-weights-3 Inv-loop μ-loop
-element-write-weights-3 c = omega arith
+element-write-weights-4 : tie.Need-element-write-weights-4 Inv-loop μ-loop
+element-write-weights-4 c = omega arith
 
 add-k : tie.Need-add-k Inv-loop μ-loop
 add-k c = omega arith
@@ -116,6 +119,7 @@ weigh-arcs-spec =
     Inv-loop
     μ-loop
     element-write-weights
+    element-write-weights-2
     loop-holds
     of-record-requires
     mark-of-requires
@@ -125,14 +129,14 @@ weigh-arcs-spec =
     high-weight-requires
     add-weights
     mul-weights
-    element-write-weights-2
+    element-write-weights-3
     add-low-kept
     mul-low-kept
     element-copy-out-low-kept
     low-kept-requires
     add-weights-2
     mul-weights-2
-    element-write-weights-3
+    element-write-weights-4
     add-k
     loop-less
     loop-again
