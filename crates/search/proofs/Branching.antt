@@ -84,6 +84,7 @@ marked g d m held =
     record {
       table = g .table;
       start = g .start;
+      order = g .order;
       percent = g .percent;
       budget = g .budget;
       failing = g .failing;
@@ -102,7 +103,7 @@ module _ {g : Scene} {l : Layers} {losses lines : List ℕ} (ground : Ground g l
         layer = ground .layer;
       }
 
-  module _ {cells marks : List ℕ} {n room bound : ℕ} (stands : Stands g l lines cells marks n room bound) where
+  module _ {cells marks : List ℕ} {n room bound : ℕ} (stands : Stands g lines cells marks n room bound) where
     -- the plan has as many marks as the table has choices
     pub plan-length : length (g .plan) ≡ choiceCount (g .table .variables)
     plan-length = stands .settles .size ∙ ground .layered .plan
@@ -149,7 +150,7 @@ module _ {g : Scene} {l : Layers} {losses lines : List ℕ} (ground : Ground g l
       unsettled-few = (omega (arith, more), omega (arith, stands .few, open-le (g .start), ground .layered .plan, ground .few))
 
       -- its layer
-      pub line-layer : Line (g .table) (g .start) l from own to d
+      pub line-layer : Line (g .table) (g .start) (g .order) from own to d
       line-layer =
           let some : n - 1 + 1 ≡ n = omega (arith, more) in
           let begins : n - 1 + 22 ≡ n + 21 = omega (arith, more) in
@@ -157,10 +158,10 @@ module _ {g : Scene} {l : Layers} {losses lines : List ℕ} (ground : Ground g l
           rw (some, begins, number) at (ground .layer (n - 1) (omega (arith, more, stands .few)))
 
       -- its layer may be left
-      pub leavable : (own ≤ to) × ((i : ℕ) → i < to → getD (l .order) i 0 < 256)
+      pub leavable : (own ≤ to) × (to ≤ 254)
       leavable =
           let bounds = line-layer .bounds in
-          (bounds .1, λ i h. ground .layered .sized .nodes i (omega (arith, bounds .2)) .1)
+          (bounds .1, omega (arith, bounds .2, ground .layered .sized .few))
 
       -- with it marked, one line less is open
       pub marked-count : (m : ℕ) → (openCount (g .plan) ≡ suc (openCount (set (g .plan) d (suc m)))) × (openCount (set (g .plan) d (suc m)) ≡ n - 1)
@@ -203,7 +204,7 @@ module _ {g : Scene} {l : Layers} {losses lines : List ℕ} (ground : Ground g l
         abbrev pub lost : ℕ
         lost = dropSum l losses own (to - own) (passNodes l from (own - from) cells)
 
-        entered-same : Same l from cells entered
+        entered-same : Same from cells entered
         entered-same =
             flows.entered-same (ground .layered) (stands .settles) line-layer line-lowest line-open cells long (stands .rooted) (stands .right)
 
@@ -217,10 +218,10 @@ module _ {g : Scene} {l : Layers} {losses lines : List ℕ} (ground : Ground g l
             let layered = ground .layered in
             let drop = flows.entered-drop layered (stands .settles) line-layer line-lowest line-open cells long (stands .rooted) (stands .right) in
             let top = drop-top (g .table) (layered .formed) (layered .shares) (layered .sized .few) (layered .monotone) (g .plan) d line-open in
-            (omega (arith, drop, top, stands .top), omega (arith, drop, top, stands .top))
+            (omega (arith, drop, top, stands .bounded), omega (arith, drop, top, stands .bounded))
 
         -- the plan with the line taken
-        pub taken-stands : (held : Option (List ℕ)) → Stands (marked g d 1 held) l lines entered (set marks d 1) (n - 1) (room - 1) bound
+        pub taken-stands : (held : Option (List ℕ)) → Stands (marked g d 1 held) lines entered (set marks d 1) (n - 1) (room - 1) bound
         unfolding upperBound
         taken-stands held =
             let same = taken-same (g .plan) d line-open in
@@ -229,15 +230,15 @@ module _ {g : Scene} {l : Layers} {losses lines : List ℕ} (ground : Ground g l
               marked = marked-marks 1;
               listed = listed-marked 0;
               few = omega (arith, stands .few);
-              kits = omega (arith, stands .kits, cost-taken (g .plan) d line-open);
-              top = rw same (stands .top);
+              affords = omega (arith, stands .affords, cost-taken (g .plan) d line-open);
+              bounded = rw same (stands .bounded);
               right = rw same (flows.entered-right (ground .layered) (stands .settles) line-layer line-lowest line-open cells long (stands .rooted) (stands .right));
               rooted = entered-same .root ∙ stands .rooted;
             }
 
-        module _ {cells′ : List ℕ} (same : Same l to entered cells′) where
+        module _ {cells′ : List ℕ} (same : Same to entered cells′) where
           -- cells that are the same up to the end of the layer are the same before it
-          pub same-before : Same l from cells cells′
+          pub same-before : Same from cells cells′
           same-before =
               let bounds = line-layer .bounds in
               same-trans entered-same (same-fewer (omega (arith, bounds .0, bounds .1)) same)
@@ -248,9 +249,9 @@ module _ {g : Scene} {l : Layers} {losses lines : List ℕ} (ground : Ground g l
           module _ (long′ : length cells′ ≡ 512) where
             -- the cells once its layer is left
             abbrev pub leftCells : List ℕ
-            leftCells = leaveNodes (l .order) own (to - own) cells′
+            leftCells = leaveNodes own (to - own) cells′
 
-            left-same : Same l own cells′ leftCells
+            left-same : Same own cells′ leftCells
             left-same =
                 flows.left-same (ground .layered) (stands .settles) line-layer line-lowest line-open cells long (stands .rooted) (stands .right) cells′ long′ same
 
@@ -259,21 +260,21 @@ module _ {g : Scene} {l : Layers} {losses lines : List ℕ} (ground : Ground g l
                 flows.left-long (ground .layered) (stands .settles) line-layer line-lowest line-open cells long (stands .rooted) (stands .right) cells′ long′ same
 
             -- the plan with the line left
-            pub left-stands : (held : Option (List ℕ)) → Stands (marked g d 2 held) l lines leftCells (set marks d 2) (n - 1) room (bound - lost)
+            pub left-stands : (held : Option (List ℕ)) → Stands (marked g d 2 held) lines leftCells (set marks d 2) (n - 1) room (bound - lost)
             left-stands held =
                 record {
                   settles = settles-marked 1;
                   marked = marked-marks 2;
                   listed = listed-marked 1;
                   few = omega (arith, stands .few);
-                  kits = rw (cost-left (g .plan) d line-open) (stands .kits);
-                  top = lost-bound .1;
+                  affords = rw (cost-left (g .plan) d line-open) (stands .affords);
+                  bounded = lost-bound .1;
                   right = flows.left-right (ground .layered) (stands .settles) line-layer line-lowest line-open cells long (stands .rooted) (stands .right) cells′ long′ same;
                   rooted = left-same .root ∙ same-before .root ∙ stands .rooted;
                 }
 
             -- cells that are the same up to the end of the layer are the same before it
-            pub same-before-too : {cells″ : List ℕ} → Same l to leftCells cells″ → Same l from cells cells″
+            pub same-before-too : {cells″ : List ℕ} → Same to leftCells cells″ → Same from cells cells″
             same-before-too too =
                 let bounds = line-layer .bounds in
                 same-trans

@@ -164,9 +164,9 @@ module _ (t : Table) (s : List ℕ) (long : length s ≡ choiceCount (t .variabl
   -- ---------------------------------------------------------------------------
   -- The layers of the open lines
 
-  module _ {l : Layers} {ends : List ℕ} (ending : Ending t l ends) where
+  module _ {order ends : List ℕ} (ending : Ending t order ends) where
     -- the layer of the first open line
-    first-line : {d x : ℕ} → Opened t s 0 d x → Line t s l 0 (getD ends x 0) (getD ends (x + 1) 0) d
+    first-line : {d x : ℕ} → Opened t s 0 d x → Line t s order 0 (getD ends x 0) (getD ends (x + 1) 0) d
     first-line {d} {x} a =
         let within = a .stand .within in
         record {
@@ -182,7 +182,7 @@ module _ (t : Table) (s : List ℕ) (long : length s ≡ choiceCount (t .variabl
         }
 
     -- the layer of an open line after another
-    next-line : {k c d w x : ℕ} → Opened t s k c w → Opened t s (suc k) d x → Line t s l (getD ends (w + 1) 0) (getD ends x 0) (getD ends (x + 1) 0) d
+    next-line : {k c d w x : ℕ} → Opened t s k c w → Opened t s (suc k) d x → Line t s order (getD ends (w + 1) 0) (getD ends x 0) (getD ends (x + 1) 0) d
     next-line {k} {c} {d} {w} {x} b a =
         let within = a .stand .within in
         let later = opened-later b a (omega arith) in
@@ -225,7 +225,7 @@ module _ (t : Table) (s : List ℕ) (long : length s ≡ choiceCount (t .variabl
         let at = opened-at i h in
         (rw (number-at i h) (omega (arith, at .within, long)), rw (place-at i h) (omega (arith, at .stand .within)))
 
-    module _ {l : Layers} {ends lines : List ℕ} (ending : Ending t l ends) (ranked : Ranked count numbers places ends lines) where
+    module _ {order ends lines : List ℕ} (ending : Ending t order ends) (ranked : Ranked count numbers places ends lines) where
       own-at : (i n : ℕ) → i + (n + 1) ≡ count → getD lines (n + 22) 0 ≡ getD ends (choicePosition (t .variables) (getD (openLines s) i 0)) 0
       own-at i n e =
           let at : count - i + 21 ≡ n + 22 = omega arith in
@@ -242,10 +242,10 @@ module _ (t : Table) (s : List ℕ) (long : length s ≡ choiceCount (t .variabl
           rw (at, number-at i (omega arith)) at (ranked .number i (omega arith))
 
       -- the layer of each open line
-      pub layers-ranked : (n : ℕ) → n < openCount s → Line t s l (getD lines (n + 1) 0) (getD lines (n + 22) 0) (getD lines n 0) (getD lines (n + 43) 0)
+      pub layers-ranked : (n : ℕ) → n < openCount s → Line t s order (getD lines (n + 1) 0) (getD lines (n + 22) 0) (getD lines n 0) (getD lines (n + 43) 0)
       layers-ranked n h = go (count - (n + 1)) (omega (arith, open-counted))
         where
-          go : (i : ℕ) → i + (n + 1) ≡ count → Line t s l (getD lines (n + 1) 0) (getD lines (n + 22) 0) (getD lines n 0) (getD lines (n + 43) 0)
+          go : (i : ℕ) → i + (n + 1) ≡ count → Line t s order (getD lines (n + 1) 0) (getD lines (n + 22) 0) (getD lines n 0) (getD lines (n + 43) 0)
           go zero e =
               let all : count ≡ n + 1 = omega arith in
               let from : getD lines (n + 1) 0 ≡ 0 = rw all at (ranked .first) in
@@ -279,11 +279,12 @@ handed-in p start few marks count =
     )
 
 -- What is visited first
-abbrev pub firstScene : (s p : List ℕ) → (percent budget failing : ℕ) → Scene
-firstScene s p percent budget failing =
+abbrev pub firstScene : (s p order : List ℕ) → (percent budget failing : ℕ) → Scene
+firstScene s p order percent budget failing =
     record {
       table = tableOf s;
       start = p;
+      order = order;
       percent = percent;
       budget = budget;
       failing = failing;
@@ -330,7 +331,7 @@ module _ {s p : List ℕ} (passed : Passed s) (long : length p ≡ choiceCount (
       numbers-few (tableOf s) p long count numbers places lists room (ready .chosen) (passed-choices passed) (omega (arith, passed-variables passed))
 
   -- all that the first visit is handed
-  pub first-visitable : {percent budget failing weight bound kits : ℕ} {ends losses lines cells marks best tally : List ℕ} {l : Layers} → Arranged (tableOf s) p weight bound ends l losses → Ranked count numbers places ends lines → getD cells 1 0 ≡ weight → marks ≡ start .marks → kits ≡ budget + 1 - cost (rows start) → LargestFailing (tableOf s) percent failing → Holds (tableOf s) budget failing none best tally → Visitable (firstScene s p percent budget failing) l losses lines cells marks best tally count kits bound
+  pub first-visitable : {percent budget failing weight bound kits : ℕ} {ends order losses lines cells marks best tally : List ℕ} {l : Layers} → Arranged (tableOf s) p weight bound ends order l losses → Ranked count numbers places ends lines → getD cells 1 0 ≡ weight → marks ≡ start .marks → kits ≡ budget + 1 - cost (rows start) → LargestFailing (tableOf s) percent failing → Holds (tableOf s) budget failing none best tally → Visitable (firstScene s p order percent budget failing) l losses lines cells marks best tally count kits bound
   first-visitable arranged ranked heavy same left passing holds =
       let from = ranked .first in
       record {
@@ -345,8 +346,8 @@ module _ {s p : List ℕ} (passed : Passed s) (long : length p ≡ choiceCount (
           marked = same ∙ ready .handed .1;
           listed = open-ranked (tableOf s) p long count numbers places lists room (ready .chosen) (arranged .ending) ranked;
           few = omega (arith, open-counted (tableOf s) p long count numbers places lists room (ready .chosen));
-          kits = rw (ready .handed .0) at left;
-          top = arranged .top;
+          affords = rw (ready .handed .0) at left;
+          bounded = arranged .bounded;
           right = rw from (record { high = λ j k h e. absurd (omega arith); low = λ j k h e. absurd (omega arith) });
           rooted = heavy ∙ arranged .weighs;
         };
@@ -358,9 +359,9 @@ module _ {s p : List ℕ} (passed : Passed s) (long : length p ≡ choiceCount (
   first-room e = omega (arith, e, pow-mono {i = suc count} {j = 21} (omega (arith, ready .listed .0)))
 
 -- what the first visit leaves is what document 01's search does
-pub first-explored : {s p : List ℕ} → Passed s → {percent budget failing from counted : ℕ} {cells marks cells′ marks′ best tally : List ℕ} {l : Layers} → counted ≡ 0 → Visited (firstScene s p percent budget failing) l from counted cells marks cells′ marks′ best tally → Explored (tableOf s) percent budget failing p best tally
-first-explored {s} {p} passed {percent} {budget} {failing} {from} {counted} e v =
-    let done : ruled (firstScene s p percent budget failing) counted ≡ visits.visited (tableOf s) budget percent p = rw e (sym (visited-rule (tableOf s) (passed-formed passed) (passed-monotone passed) budget percent p)) in
+pub first-explored : {s p : List ℕ} → Passed s → {percent budget failing from counted : ℕ} {order cells marks cells′ marks′ best tally : List ℕ} → counted ≡ 0 → Visited (firstScene s p order percent budget failing) from counted cells marks cells′ marks′ best tally → Explored (tableOf s) percent budget failing p best tally
+first-explored {s} {p} passed {percent} {budget} {failing} {from} {counted} {order} e v =
+    let done : ruled (firstScene s p order percent budget failing) counted ≡ visits.visited (tableOf s) budget percent p = rw e (sym (visited-rule (tableOf s) (passed-formed passed) (passed-monotone passed) budget percent p)) in
     record { holds = rw done at (v .holds); counts = v .counts ∙ ap (λ (w : visits.Tally). w .visits) done }
 
 -- ---------------------------------------------------------------------------
@@ -393,12 +394,12 @@ module _ {t : Table} {p : List ℕ} {n : ℕ} {ps hs ls ha la ms : List ℕ} (m 
   records-placed k h =
       rw variables (position-below t (m .formed) few (m .few) (m .positions) refl refl k (omega (arith, m .size)))
 
-  module _ {order : List ℕ} (ordered : order ≡ placed (replicate 512 0) 0 (joined (λ x. pick ps 0 x n) v)) where
+  module _ {order : List ℕ} (ordered : order ≡ placed (replicate 1024 0) 0 (joined (λ x. pick ps 0 x n) v)) where
     -- the nodes in order, as the laws of the layout have them
-    pub order-is : order ≡ placed (replicate 512 0) 0 (joined (nodesAt ps n) (length (t .variables)))
+    pub order-is : order ≡ placed (replicate 1024 0) 0 (joined (nodesAt ps n) (length (t .variables)))
     order-is = rw variables at ordered
 
-    order-same : order ≡ placed (replicate 512 0) 0 (joined (nodesAt ps (length (t .records))) (length (t .variables)))
+    order-same : order ≡ placed (replicate 1024 0) 0 (joined (nodesAt ps (length (t .records))) (length (t .variables)))
     order-same = rw (m .size .0, variables) at ordered
 
     -- how many nodes stand before each position
@@ -421,7 +422,7 @@ module _ {t : Table} {p : List ℕ} {n : ℕ} {ps hs ls ha la ms : List ℕ} (m 
           let counts : ℕ → ℕ = λ x. length (joined (nodesAt ps (length (t .records))) x) in
           rw (ends-same, over-zeros (sequence counts 0 (length (t .variables) + 1)) 256 x (rw sequence-length (omega (arith, f)))) (omega arith))
 
-      pub ending : {starts sources arcs : List ℕ} → Ending t (record { order = order; starts = starts; sources = sources; arcs = arcs }) ends
+      pub ending : Ending t order ends
       ending =
           record {
             few = ends-few;

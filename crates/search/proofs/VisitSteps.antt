@@ -46,8 +46,8 @@ room-second (suc n) x y more h k =
 -- A visit
 
 -- cells are the same as themselves
-same-refl : (l : Layers) (i : ℕ) (cells : List ℕ) → Same l i cells cells
-same-refl l i cells = record { high = λ j h. refl; low = λ j h. refl; root = refl }
+same-refl : (i : ℕ) (cells : List ℕ) → Same i cells cells
+same-refl i cells = record { high = λ j h. refl; low = λ j h. refl; root = refl }
 
 -- The parts of the rule for a scene
 abbrev parts : Scene → Terms
@@ -90,10 +90,10 @@ module _ {g : Scene} {l : Layers} {losses lines cells marks best tally : List �
     -- the first test is the rule's
     back-test : goesBack (parts g) (g .plan) (g .held) ≡ r
     back-test =
-        back-is counted (g .percent) (given .ground .passing) (g .plan) (given .stands .kits) (given .stands .top) test
+        back-is counted (g .percent) (given .ground .passing) (g .plan) (given .stands .affords) (given .stands .bounded) test
 
     -- a visit that goes back
-    pub visit-back : r ≡ true → Visited g l (getD lines n 0) (getD tally 2 0) cells marks cells marks best tally₁
+    pub visit-back : r ≡ true → Visited g (getD lines n 0) (getD tally 2 0) cells marks cells marks best tally₁
     visit-back back =
         let rules = rule-back (openCount (g .plan)) (parts g) (g .plan) found (back-test ∙ back) in
         record {
@@ -101,7 +101,7 @@ module _ {g : Scene} {l : Layers} {losses lines cells marks best tally : List �
           holds = rw rules counted;
           counts = rw rules counted-visits;
           kept = refl;
-          same = same-refl l _ cells;
+          same = same-refl _ cells;
         }
 
     module _ (stays : r ≡ false) where
@@ -110,7 +110,7 @@ module _ {g : Scene} {l : Layers} {losses lines cells marks best tally : List �
       room-some = omega (arith, eqb-false room 0 (neither (eqb room 0) (sym test ∙ stays) .0))
 
       -- a visit with no line open
-      pub visit-full : n ≡ 0 → {best′ tally′ : List ℕ} → best′ ≡ cond (ranksOver bound room marks (getD tally₁ 0 0) (getD tally₁ 1 0) best) marks best → tally′ ≡ cond (ranksOver bound room marks (getD tally₁ 0 0) (getD tally₁ 1 0) best) (set (set tally₁ 0 bound) 1 room) tally₁ → Visited g l (getD lines n 0) (getD tally 2 0) cells marks cells marks best′ tally′
+      pub visit-full : n ≡ 0 → {best′ tally′ : List ℕ} → best′ ≡ cond (ranksOver bound room marks (getD tally₁ 0 0) (getD tally₁ 1 0) best) marks best → tally′ ≡ cond (ranksOver bound room marks (getD tally₁ 0 0) (getD tally₁ 1 0) best) (set (set tally₁ 0 bound) 1 room) tally₁ → Visited g (getD lines n 0) (getD tally 2 0) cells marks cells marks best′ tally′
       unfolding terms
       visit-full none eb et =
           let stands = given .stands in
@@ -120,14 +120,14 @@ module _ {g : Scene} {l : Layers} {losses lines cells marks best tally : List �
           let long : length (set (set tally₁ 0 bound) 1 room) ≡ 3 = simp length-set counted-size in
           record {
             sizes = (sizes .0, rw eb (either-long before marks best (sizes .1) (sizes .2)), rw et (either-long before _ tally₁ long counted-size));
-            holds = rw (full, rules) (kept-holds counted counted-size (g .plan) room bound marks eb et (branching.plan-length (given .ground) stands) (given .ground .few) full (stands .marked) (stands .kits) (stands .top) (sym test ∙ stays));
+            holds = rw (full, rules) (kept-holds counted counted-size (g .plan) room bound marks eb et (branching.plan-length (given .ground) stands) (given .ground .few) full (stands .marked) (stands .affords) (stands .bounded) (sym test ∙ stays));
             counts = rw (full, rules) (kept-visits counted counted-size (g .plan) room bound marks eb et ∙ counted-visits);
             kept = refl;
-            same = same-refl l _ cells;
+            same = same-refl _ cells;
           }
 
   -- a visit of a plan that costs more than the budget
-  pub visit-over : room ≡ 0 → Visited g l (getD lines n 0) (getD tally 2 0) cells marks cells marks best tally₁
+  pub visit-over : room ≡ 0 → Visited g (getD lines n 0) (getD tally 2 0) cells marks cells marks best tally₁
   visit-over over = visit-back {r = true} (rw over refl) refl
 
   -- ---------------------------------------------------------------------------
@@ -190,9 +190,9 @@ module _ {g : Scene} {l : Layers} {losses lines cells marks best tally : List �
           let long : length cells₁ ≡ 512 = rw enter (branching.entered-long (given .ground) (given .stands) more (sizes .0)) in
           ((long, first-marks, sizes .2, counted-size), ((first, first-given), rw (counted-visits, ← add-one) (room-first n (getD tally 2 0) more fits)))
 
-      module _ {cells₂ marks₂ best₂ tally₂ : List ℕ} (visited : (g : Scene) → Visitable g l losses lines cells₁ marks₁ best tally₁ (n - 1) (room - 1) bound → Visited g l to (getD tally₁ 2 0) cells₁ marks₁ cells₂ marks₂ best₂ tally₂) where
+      module _ {cells₂ marks₂ best₂ tally₂ : List ℕ} (visited : (g : Scene) → Visitable g l losses lines cells₁ marks₁ best tally₁ (n - 1) (room - 1) bound → Visited g to (getD tally₁ 2 0) cells₁ marks₁ cells₂ marks₂ best₂ tally₂) where
         -- what its visit leaves
-        first-left : Visited first l to (getD tally₁ 2 0) cells₁ marks₁ cells₂ marks₂ best₂ tally₂
+        first-left : Visited first to (getD tally₁ 2 0) cells₁ marks₁ cells₂ marks₂ best₂ tally₂
         first-left = visited first first-given
 
         -- it may be marked again
@@ -211,7 +211,7 @@ module _ {g : Scene} {l : Layers} {losses lines cells marks best tally : List �
             rw (branching.line-lowest (given .ground) (given .stands) more, counted-visits, branching.marked-count (given .ground) (given .stands) more 0 .1) refl
 
         -- the cells are the same up to the end of the layer
-        first-same : Same l to (ownNodes l own (to - own) (passNodes l from (own - from) cells)) cells₂
+        first-same : Same to (ownNodes l own (to - own) (passNodes l from (own - from) cells)) cells₂
         first-same = rw enter at (first-left .same)
 
         -- the plan has one line more open
@@ -221,7 +221,7 @@ module _ {g : Scene} {l : Layers} {losses lines cells marks best tally : List �
             count .0 ∙ ap suc (count .1)
 
         -- its layer may be left
-        pub leave-ready : (1 ≤ n) × (n ≤ 20) × (length cells₂ ≡ 512) × (getD lines (n + 21) 0 ≤ getD lines (n - 1) 0) × ((i : ℕ) → i < getD lines (n - 1) 0 → getD (l .order) i 0 < 256)
+        pub leave-ready : (1 ≤ n) × (n ≤ 20) × (length cells₂ ≡ 512) × (getD lines (n + 21) 0 ≤ getD lines (n - 1) 0) × (getD lines (n - 1) 0 ≤ 254)
         leave-ready =
             let few = branching.unsettled-few (given .ground) (given .stands) more in
             let may = branching.leavable (given .ground) (given .stands) more in
@@ -238,7 +238,7 @@ module _ {g : Scene} {l : Layers} {losses lines cells marks best tally : List �
                 ap (λ (i : ℕ). worthwhile (parts g) (set (g .plan) i 2) (after .held)) (branching.line-lowest (given .ground) (given .stands) more) ∙ worth-is (rw after-first at (first-left .holds)) (g .percent) (given .ground .passing) (set (g .plan) d 2) left-bound worth
 
             -- a visit that ends after the plan with the line taken
-            pub visit-taken : b ≡ true → {marks₃ : List ℕ} → marks₃ ≡ set marks₂ d 0 → Visited g l from (getD tally 2 0) cells marks cells₂ marks₃ best₂ tally₂
+            pub visit-taken : b ≡ true → {marks₃ : List ℕ} → marks₃ ≡ set marks₂ d 0 → Visited g from (getD tally 2 0) cells marks cells₂ marks₃ best₂ tally₂
             visit-taken one back =
                 let rules : ruled g (getD tally 2 0) ≡ after = rw open-more (rule-taken (n - 1) (parts g) (g .plan) found (back-test test ∙ stays) (worth-test ∙ ap not one)) in
                 record {
@@ -256,7 +256,7 @@ module _ {g : Scene} {l : Layers} {losses lines cells marks best tally : List �
           abbrev second : Scene
           second = marked g d 2 (ruled first (getD tally₁ 2 0) .held)
 
-          module _ {cells₃ marks₃ : List ℕ} (leave : cells₃ ≡ leaveNodes (l .order) own (to - own) cells₂) (leaves : marks₃ ≡ set marks₂ d 2) where
+          module _ {cells₃ marks₃ : List ℕ} (leave : cells₃ ≡ leaveNodes own (to - own) cells₂) (leaves : marks₃ ≡ set marks₂ d 2) where
             second-marks : marks₃ ≡ set marks d 2
             second-marks = leaves ∙ rw (first-left .kept, take) (set-set marks d 1 2)
 
@@ -279,9 +279,9 @@ module _ {g : Scene} {l : Layers} {losses lines cells marks best tally : List �
                 let long : length cells₃ ≡ 512 = rw leave (branching.left-long (given .ground) (given .stands) more (sizes .0) first-same (first-left .sizes .0)) in
                 ((long, second-long, first-left .sizes .1, first-left .sizes .2), ((second, second-given), room-second n (getD tally 2 0) (getD tally₂ 2 0) more fits (rw counts (omega (arith, most)))))
 
-            module _ {cells₄ marks₄ best₄ tally₄ : List ℕ} (visited-too : (g : Scene) → Visitable g l losses lines cells₃ marks₃ best₂ tally₂ (n - 1) room left → Visited g l to (getD tally₂ 2 0) cells₃ marks₃ cells₄ marks₄ best₄ tally₄) where
+            module _ {cells₄ marks₄ best₄ tally₄ : List ℕ} (visited-too : (g : Scene) → Visitable g l losses lines cells₃ marks₃ best₂ tally₂ (n - 1) room left → Visited g to (getD tally₂ 2 0) cells₃ marks₃ cells₄ marks₄ best₄ tally₄) where
               -- what its visit leaves
-              second-left : Visited second l to (getD tally₂ 2 0) cells₃ marks₃ cells₄ marks₄ best₄ tally₄
+              second-left : Visited second to (getD tally₂ 2 0) cells₃ marks₃ cells₄ marks₄ best₄ tally₄
               second-left = visited-too second second-given
 
               -- the line may be marked again
@@ -296,7 +296,7 @@ module _ {g : Scene} {l : Layers} {losses lines cells marks best tally : List �
                   refl
 
               -- a visit that ends after both
-              pub visit-both : {r : Bool} → r ≡ (eqb room 0 || ltb bound (getD tally₁ 0 0)) → r ≡ false → {b : Bool} → b ≡ ltb left (getD tally₂ 0 0) → b ≡ false → {marks₅ : List ℕ} → marks₅ ≡ set marks₄ d 0 → Visited g l from (getD tally 2 0) cells marks cells₄ marks₅ best₄ tally₄
+              pub visit-both : {r : Bool} → r ≡ (eqb room 0 || ltb bound (getD tally₁ 0 0)) → r ≡ false → {b : Bool} → b ≡ ltb left (getD tally₂ 0 0) → b ≡ false → {marks₅ : List ℕ} → marks₅ ≡ set marks₄ d 0 → Visited g from (getD tally 2 0) cells marks cells₄ marks₅ best₄ tally₄
               visit-both test stays worth two back =
                   let rules : ruled g (getD tally 2 0) ≡ rule (n - 1) (parts g) (set (g .plan) (lowestOpen (g .plan)) 2) after = rw open-more (rule-both (n - 1) (parts g) (g .plan) found (back-test test ∙ stays) (worth-test test stays worth ∙ ap not two)) in
                   record {

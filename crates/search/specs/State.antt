@@ -113,8 +113,8 @@ pub record Stands (g : Scene) (lines cells marks : List ℕ) (unsettled room bou
   pub marked : marks ≡ padded (g .plan)
   pub listed : openLines (g .plan) ≡ numbersFrom lines unsettled
   pub few : unsettled ≤ openCount (g .start)
-  pub kits : room ≡ g .budget + 1 - cost (g .plan)
-  pub top : bound ≡ upperBound (g .table) (g .plan)
+  pub affords : room ≡ g .budget + 1 - cost (g .plan)
+  pub bounded : bound ≡ upperBound (g .table) (g .plan)
   pub right : Right (g .table) (g .start) (openTaken (g .plan)) (g .order) (getD lines unsettled 0) cells
   pub rooted : getD cells 1 0 ≡ gap (g .table) 0 (place (g .table) (root (g .table)))
 
@@ -178,7 +178,7 @@ pub record Ending (t : Table) (order ends : List ℕ) : Type 0 where
 -- The arrays hold table t, laid out for a search from plan p, whose bound it is
 pub record Arranged (t : Table) (p : List ℕ) (weight bound : ℕ) (ends order : List ℕ) (l : Layers) (losses : List ℕ) : Type 0 where
   pub weighs : weight ≡ gap t 0 (place t (root t))
-  pub top : bound ≡ upperBound t p
+  pub bounded : bound ≡ upperBound t p
   pub layered : Layered t p order l losses
   pub ending : Ending t order ends
 

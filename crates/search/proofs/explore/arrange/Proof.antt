@@ -11,7 +11,7 @@ use Rattle.scoring.proofs.Bounding.{records-few}
 use Rattle.scoring.proofs.Passing.{position-within}
 use Rattle.layers.specs.Chains.{joined, placed}
 use Rattle.layers.proofs.Ordering.{nodesAt}
-use Rattle.layers.proofs.Arranging.{nodes-few, room-for-arcs, sources-few, starts-few}
+use Rattle.layers.proofs.Arranging.{nodes-within, nodes-distinct, nodes-few, room-for-arcs, list-few, starts-few}
 use Rattle.search.proofs.Starting.{arrays-marked, records-placed, order-is}
 use borrow.Author.Needs.{needs}
 use Rattle.search.proofs.explore.arrange.Statement.{statement}
@@ -53,7 +53,7 @@ order-records-requires c κs =
 -- the nodes in order
 ordered : (c : tie.After-order-records) →
     let a = c .before .before .before .before .before .before .before .args in
-    c .order-records .last .1 .1 .1 .0 ≡ placed (replicate 512 0) 0 (joined (nodesAt (a .positions .now) (a .n)) (length (tableOf (a .file .now) .variables)))
+    c .order-records .last .1 .1 .1 .0 ≡ placed (replicate 1024 0) 0 (joined (nodesAt (a .positions .now) (a .n)) (length (tableOf (a .file .now) .variables)))
 ordered c = order-is (marked (c .before .before .before .before)) (variables (c .before .before .before)) (c .order-records .ensures .0)
 
 -- how many nodes stand before each position
@@ -82,7 +82,7 @@ array-read-pick-arcs : tie.Need-array-read-pick-arcs
 array-read-pick-arcs c = omega (arith, few (c .before .before .before .before .before .before .before .before .before .before .before .before .before .before))
 
 -- where the arcs begin fits
-begun : (c : tie.After-weigh-arcs) → getD (c .before .before .before .order-arcs .last .1 .1 .1 .1 .1 .0) (c .before .before .before .before .before .before .before .before .before .before .before .before .before .before .args .n) 0 ≤ 512
+begun : (c : tie.After-weigh-arcs) → getD (c .before .before .before .order-arcs .last .1 .1 .1 .1 .1 .0) (c .before .before .before .before .before .before .before .before .before .before .before .before .before .before .args .n) 0 ≤ 1024
 begun c =
     let arcs = c .before .before .before .order-arcs .ensures in
     starts-few (marked (c .before .before .before .before .before .before .before .before .before .before .before)) (passed-monotone (c .before .before .before .before .before .before .before .before .before .before .before .before .before .before .pre .0)) (few (c .before .before .before .before .before .before .before .before .before .before .before .before .before .before) .0) (ordered (c .before .before .before .before .before .before .before)) refl (arcs .0) (arcs .1) (c .weigh-arcs .ensures) _ (omega arith)
@@ -93,7 +93,7 @@ cast-pick-arcs c = record { fits = omega (arith, begun c) }
 pick-arcs-requires : tie.Need-pick-arcs-requires
 pick-arcs-requires c κs =
     let arcs = c .before .before .before .before .before .before .order-arcs .ensures in
-    (begun (c .before .before .before), refl, sources-few (marked (c .before .before .before .before .before .before .before .before .before .before .before .before .before .before)) (passed-monotone (c .before .before .before .before .before .before .before .before .before .before .before .before .before .before .before .before .before .pre .0)) (few (c .before .before .before .before .before .before .before .before .before .before .before .before .before .before .before .before .before) .0) (ordered (c .before .before .before .before .before .before .before .before .before .before)) refl (arcs .0) (arcs .1) (c .before .before .before .weigh-arcs .ensures))
+    (begun (c .before .before .before), refl, list-few (marked (c .before .before .before .before .before .before .before .before .before .before .before .before .before .before)) (passed-monotone (c .before .before .before .before .before .before .before .before .before .before .before .before .before .before .before .before .before .pre .0)) (few (c .before .before .before .before .before .before .before .before .before .before .before .before .before .before .before .before .before) .0) (ordered (c .before .before .before .before .before .before .before .before .before .before)) refl (arcs .0) (arcs .1) (c .before .before .before .weigh-arcs .ensures))
 
 evaluate-requires : tie.Need-evaluate-requires
 evaluate-requires c κs =

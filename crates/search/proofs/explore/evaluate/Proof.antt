@@ -73,8 +73,7 @@ first-visit-requires c κs =
     let start = c .before .before .before .before .before .before .before .before .before .before .before .before .before in
     let pre = start .pre in
     let m = marked start in
-    let laid = pre .1 .1 .1 .1 .1 in
-    let w = laid .weighed in (
+    let laid = pre .1 .1 .1 .1 .1 in (
       pre .0,
       (
         pre .1 .0,
@@ -82,12 +81,12 @@ first-visit-requires c κs =
           pre .1 .1 .0,
           (
             pre .1 .1 .1 .0,
-            record {
+            (_, record {
               weighs = pre .1 .1 .1 .1 .0 .weighs;
-              top = bound (c .before .before .before);
-              layered = layered m (passed-monotone (pre .0)) (few start .0) (laid .nodes) (values (c .before .before .before .before .before .before .before .before .before)) (laid .sourced) (laid .started) (w .2) (w .3) (w .4) (c .before .before .before .before .before .before .weigh-losses .ensures);
+              bounded = bound (c .before .before .before);
+              layered = layered m (passed-monotone (pre .0)) (few start .0) (laid .nodes) (values (c .before .before .before .before .before .before .before .before .before)) (laid .listed) (laid .started) (laid .weighed) (laid .numbered) (laid .all) (laid .arcs) (laid .sources) (c .before .before .before .before .before .before .weigh-losses .ensures);
               ending = ending m refl (laid .nodes) (passed-variables (pre .0) .0) (laid .ending);
-            },
+            }),
           ),
         ),
       ),

@@ -54,7 +54,7 @@ line-ranks-requires : tie.Need-line-ranks-requires
 line-ranks-requires c κs =
     let start = c .before .before .before .before .before .before .before .before .before .before in
     let r = ready (c .before .before .before .before) in
-    (r .listed .0, refl, first-few (start .pre .0) (start .pre .1 .0 .0) r, start .pre .1 .1 .1 .1 .ending .few)
+    (r .listed .0, refl, first-few (start .pre .0) (start .pre .1 .0 .0) r, start .pre .1 .1 .1 .1 .1 .ending .few)
 
 array-write-cells : tie.Need-array-write-cells
 array-write-cells c = search needs
@@ -85,8 +85,8 @@ visit-requires c κs =
     let sizes = start .pre .1 .1 .1 .0 in
     let held = nothing-held (tableOf (start .args .file .now)) (start .args .budget) (start .args .failing) (start .args .best .now) (start .args .tally .now) (sizes .1) refl refl refl refl in
     let failing = start .pre .1 .1 .0 .2 in
-    let visitable = first-visitable passed (start .pre .1 .0 .0) r (start .pre .1 .1 .1 .1) (c .before .before .before .before .before .before .before .before .line-ranks .ensures) refl refl (c .room-of .ensures ∙ rw (c .before .cost-of .ensures) refl) (failing .1) (held .0) in
-    ((refl, r .handed .2, sizes .0, held .1), ((firstScene _ _ (failing .0) _ _, visitable), first-room passed (start .pre .1 .0 .0) r (held .2)))
+    let visitable = first-visitable passed (start .pre .1 .0 .0) r (start .pre .1 .1 .1 .1 .1) (c .before .before .before .before .before .before .before .before .line-ranks .ensures) refl refl (c .room-of .ensures ∙ rw (c .before .cost-of .ensures) refl) (failing .1) (held .0) in
+    ((refl, r .handed .2, sizes .0, held .1), ((firstScene _ _ _ (failing .0) _ _, visitable), first-room passed (start .pre .1 .0 .0) r (held .2)))
 
 returns : tie.Need-returns
 returns c percent passing =
@@ -95,7 +95,7 @@ returns c percent passing =
     let r = ready (c .before .before .before .before .before .before .before .before .before .before .before .before .before .before) in
     let sizes = start .pre .1 .1 .1 .0 in
     let held = nothing-held (tableOf (start .args .file .now)) (start .args .budget) (start .args .failing) (start .args .best .now) (start .args .tally .now) (sizes .1) refl refl refl refl in
-    let visitable = first-visitable passed (start .pre .1 .0 .0) r (start .pre .1 .1 .1 .1) (c .before .before .before .before .before .before .before .before .before .line-ranks .ensures) refl refl (c .before .room-of .ensures ∙ rw (c .before .before .cost-of .ensures) refl) passing (held .0) in
+    let visitable = first-visitable passed (start .pre .1 .0 .0) r (start .pre .1 .1 .1 .1 .1) (c .before .before .before .before .before .before .before .before .before .line-ranks .ensures) refl refl (c .before .room-of .ensures ∙ rw (c .before .before .cost-of .ensures) refl) passing (held .0) in
     first-explored passed (held .2) (c .visit .ensures _ visitable)
 
 pub first-visit-spec : {M : Type 1} → statement M
