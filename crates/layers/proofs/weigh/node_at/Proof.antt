@@ -1,7 +1,7 @@
 -- `node_at` meets its contract. Assumes nothing.
 use borrow.Author.Needs.{needs}
-use Rattle.layers.proofs.walk.node_at.Statement.{statement}
-use Rattle.layers.proofs.walk.node_at.Tie as tie
+use Rattle.layers.proofs.weigh.node_at.Statement.{statement}
+use Rattle.layers.proofs.weigh.node_at.Tie as tie
 
 mul-new : tie.Need-mul-new
 mul-new c = search needs
