@@ -38,7 +38,7 @@ module _ (ss ws cells : List ℕ) (from : ℕ) where
 
   -- one pair more
   pub flow-next : {j w x : ℕ} → from ≤ j → w ≡ flowSum ss ws cells from (j - from) → x ≡ flowSum ss ws cells j 2 → w + x ≡ flowSum ss ws cells from (j + 2 - from)
-  flow-next {j} {w} {x} h e ex =
+  flow-next {j} h e ex =
       let two : j + 2 - from ≡ j - from + 2 = omega arith in
       let here : from + (j - from) ≡ j = omega arith in
       rw (two, flow-split (j - from) 2, here, ← e, ← ex) refl
