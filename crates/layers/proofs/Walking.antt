@@ -13,31 +13,42 @@ use Rattle.layers.specs.Layers.{Layers, flowSum, inflow, put, passNode, 
 -- What arcs bring
 
 module _ (ss ws cells : List ℕ) (from : ℕ) where
-  pub flow-none : 0 ≡ flowSum ss ws cells from (from - from)
+  -- arcs one after the other
+  pub flow-split : (n m : ℕ) → flowSum ss ws cells from (n + m) ≡ flowSum ss ws cells from n + flowSum ss ws cells (from + n) m
   unfolding flowSum
-  flow-none = rw (sub-self from) refl
+  flow-split n zero =
+      let none : n + 0 ≡ n = omega arith in
+      rw none (omega arith)
+  flow-split n (suc m) =
+      let one : n + suc m ≡ suc (n + m) = omega arith in
+      let here : from + (n + m) ≡ from + n + m = omega arith in
+      rw (one, here) (omega (arith, flow-split n m))
 
-  pub flow-next : {j w : ℕ} → from ≤ j → w ≡ flowSum ss ws cells from (j - from) → w + getD cells (getD ss j 0) 0 * getD ws j 0 ≡ flowSum ss ws cells from (j + 1 - from)
+  pub flow-two : flowSum ss ws cells from 2 ≡ getD cells (getD ss from 0) 0 * getD ws from 0 + getD cells (getD ss (from + 1) 0) 0 * getD ws (from + 1) 0
   unfolding flowSum
-  flow-next {j} {w} h e =
-      let one : j + 1 - from ≡ suc (j - from) = omega arith in
+  flow-two =
+      let here : from + 0 ≡ from = omega arith in
+      rw here (omega arith)
+
+  -- the first pair
+  pub flow-first : {w : ℕ} → w ≡ flowSum ss ws cells from 2 → w ≡ flowSum ss ws cells from (from + 2 - from)
+  flow-first e =
+      let two : from + 2 - from ≡ 2 = omega arith in
+      rw two e
+
+  -- one pair more
+  pub flow-next : {j w x : ℕ} → from ≤ j → w ≡ flowSum ss ws cells from (j - from) → x ≡ flowSum ss ws cells j 2 → w + x ≡ flowSum ss ws cells from (j + 2 - from)
+  flow-next {j} h e ex =
+      let two : j + 2 - from ≡ j - from + 2 = omega arith in
       let here : from + (j - from) ≡ j = omega arith in
-      rw (one, here, e) refl
+      rw (two, flow-split (j - from) 2, here, ← e, ← ex) refl
 
-  flow-rises : (n m : ℕ) → n ≤ m → flowSum ss ws cells from n ≤ flowSum ss ws cells from m
-  unfolding flowSum
-  flow-rises n zero h =
-      let e : n ≡ 0 = omega arith in
-      rw e (le-refl _)
-  flow-rises n (suc m) h =
-      ⊎-elim
-      (λ e. rw e (le-refl _))
-      (λ less. omega (arith, flow-rises n m (omega arith)))
-      (eq-or-lt-of-le {n = n} {m = suc m} h)
-
-  -- the sum so far is at most the whole sum
-  pub flow-fits : {j to w : ℕ} → from ≤ j → j < to → flowSum ss ws cells from (to - from) ≤ 2 ^ 56 → w ≡ flowSum ss ws cells from (j - from) → w + getD cells (getD ss j 0) 0 * getD ws j 0 ≤ 2 ^ 56
-  flow-fits {j} {to} h less fits e = rw (flow-next h e) (le-trans (flow-rises (j + 1 - from) (to - from) (omega arith)) fits)
+  -- the sum so far, with the next pair, is at most the whole sum
+  pub flow-fits : {j to : ℕ} → from ≤ j → j + 2 ≤ to → flowSum ss ws cells from (to - from) ≤ 2 ^ 56 → flowSum ss ws cells from (j - from) + flowSum ss ws cells j 2 ≤ 2 ^ 56
+  flow-fits {j} {to} h left fits =
+      let rest : to - from ≡ j + 2 - from + (to - (j + 2)) = omega arith in
+      let all = rw rest at fits in
+      rw (flow-next h refl refl) (omega (arith, flow-split (j + 2 - from) (to - (j + 2)), all))
 
   pub flow-all : {j to w : ℕ} → j ≤ to → to ≤ j → w ≡ flowSum ss ws cells from (j - from) → w ≡ flowSum ss ws cells from (to - from)
   flow-all {j} {to} h k e =
@@ -52,12 +63,12 @@ module _ (l : Layers) (from : ℕ) (cells₀ : List ℕ) where
   unfolding passNodes
   pass-none = rw (sub-self from) refl
 
-  pub pass-next : {i m w : ℕ} {cells cells′ : List ℕ} → from ≤ i → cells ≡ passNodes l from (i - from) cells₀ → m ≡ getD (l .order) i 0 → w ≡ inflow l cells i → cells′ ≡ put cells m w w → cells′ ≡ passNodes l from (i + 1 - from) cells₀
+  pub pass-next : {i w : ℕ} {cells cells′ : List ℕ} → from ≤ i → cells ≡ passNodes l from (i - from) cells₀ → w ≡ inflow l cells i → cells′ ≡ put cells i w w → cells′ ≡ passNodes l from (i + 1 - from) cells₀
   unfolding passNodes passNode
-  pass-next {i} h e em ew e′ =
+  pass-next {i} h e ew e′ =
       let one : i + 1 - from ≡ suc (i - from) = omega arith in
       let here : from + (i - from) ≡ i = omega arith in
-      rw (one, here, ← e, ← em, ← ew) e′
+      rw (one, here, ← e, ← ew) e′
 
   pub pass-fits : {i to : ℕ} {cells : List ℕ} → from ≤ i → i < to → ((k : ℕ) → from + k < to → inflow l (passNodes l from k cells₀) (from + k) ≤ 2 ^ 56) → cells ≡ passNodes l from (i - from) cells₀ → inflow l cells i ≤ 2 ^ 56
   pass-fits {i} h less fits e =
@@ -77,12 +88,12 @@ module _ (l : Layers) (from : ℕ) (cells₀ : List ℕ) where
   unfolding ownNodes
   own-none = rw (sub-self from) refl
 
-  pub own-next : {i m w : ℕ} {cells cells′ : List ℕ} → from ≤ i → cells ≡ ownNodes l from (i - from) cells₀ → m ≡ getD (l .order) i 0 → w ≡ inflow l cells i → cells′ ≡ put cells m w 0 → cells′ ≡ ownNodes l from (i + 1 - from) cells₀
+  pub own-next : {i w : ℕ} {cells cells′ : List ℕ} → from ≤ i → cells ≡ ownNodes l from (i - from) cells₀ → w ≡ inflow l cells i → cells′ ≡ put cells i w 0 → cells′ ≡ ownNodes l from (i + 1 - from) cells₀
   unfolding ownNodes ownNode
-  own-next {i} h e em ew e′ =
+  own-next {i} h e ew e′ =
       let one : i + 1 - from ≡ suc (i - from) = omega arith in
       let here : from + (i - from) ≡ i = omega arith in
-      rw (one, here, ← e, ← em, ← ew) e′
+      rw (one, here, ← e, ← ew) e′
 
   pub own-fits : {i to : ℕ} {cells : List ℕ} → from ≤ i → i < to → ((k : ℕ) → from + k < to → inflow l (ownNodes l from k cells₀) (from + k) ≤ 2 ^ 56) → cells ≡ ownNodes l from (i - from) cells₀ → inflow l cells i ≤ 2 ^ 56
   own-fits {i} h less fits e =
@@ -129,19 +140,19 @@ module _ (l : Layers) (from : ℕ) (cells₀ : List ℕ) where
 -- ---------------------------------------------------------------------------
 -- Nodes of a line that is left
 
-module _ (ms : List ℕ) (from : ℕ) (cells₀ : List ℕ) where
-  pub leave-none : cells₀ ≡ leaveNodes ms from (from - from) cells₀
+module _ (from : ℕ) (cells₀ : List ℕ) where
+  pub leave-none : cells₀ ≡ leaveNodes from (from - from) cells₀
   unfolding leaveNodes
   leave-none = rw (sub-self from) refl
 
-  pub leave-next : {i m w : ℕ} {cells cells′ : List ℕ} → from ≤ i → cells ≡ leaveNodes ms from (i - from) cells₀ → m ≡ getD ms i 0 → w ≡ getD cells m 0 → cells′ ≡ put cells m 0 w → cells′ ≡ leaveNodes ms from (i + 1 - from) cells₀
+  pub leave-next : {i w : ℕ} {cells cells′ : List ℕ} → from ≤ i → cells ≡ leaveNodes from (i - from) cells₀ → w ≡ getD cells (i + 2) 0 → cells′ ≡ put cells i 0 w → cells′ ≡ leaveNodes from (i + 1 - from) cells₀
   unfolding leaveNodes leaveNode
-  leave-next {i} h e em ew e′ =
+  leave-next {i} h e ew e′ =
       let one : i + 1 - from ≡ suc (i - from) = omega arith in
       let here : from + (i - from) ≡ i = omega arith in
-      rw (one, here, ← e, ← em, ← ew) e′
+      rw (one, here, ← e, ← ew) e′
 
-  pub leave-all : {i to : ℕ} {cells : List ℕ} → i ≤ to → to ≤ i → cells ≡ leaveNodes ms from (i - from) cells₀ → cells ≡ leaveNodes ms from (to - from) cells₀
+  pub leave-all : {i to : ℕ} {cells : List ℕ} → i ≤ to → to ≤ i → cells ≡ leaveNodes from (i - from) cells₀ → cells ≡ leaveNodes from (to - from) cells₀
   leave-all {i} {to} h k e =
       let end : i ≡ to = omega arith in
       e ∙ rw end refl
@@ -149,8 +160,8 @@ module _ (ms : List ℕ) (from : ℕ) (cells₀ : List ℕ) where
 -- ---------------------------------------------------------------------------
 -- Lengths
 
-pub put-length : (cells : List ℕ) (m x y : ℕ) → length (put cells m x y) ≡ length cells
-put-length cells m x y = simp length-set
+pub put-length : (cells : List ℕ) (i x y : ℕ) → length (put cells i x y) ≡ length cells
+put-length cells i x y = simp length-set
 
 pub passed-length : (l : Layers) (i n : ℕ) (cells : List ℕ) → length (passNodes l i n cells) ≡ length cells
 unfolding passNodes passNode

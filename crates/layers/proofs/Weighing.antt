@@ -1,12 +1,13 @@
--- The loops that fill the arrays of weights and losses, one turn more. Assumes nothing.
-use Prim.Native.Nat.{ℕ, _+_, _-_, _*_, _≤_, _<_, _^_}
+-- The loops that fill the arrays of weights, cells and losses, one turn more. Assumes nothing.
+use Prim.Native.Nat.{ℕ, zero, suc, _+_, _-_, _*_, _≤_, _<_, _^_}
 use native.Mathlib.Nat.{zero-add, eq-or-lt-of-le}
+use native.Mathlib.Decide.{ℕ-discrete}
 use native.Mathlib.Numerals.{add-one}
 use native.Mathlib.Omega.{arith}
 use mathlib.Core.Path.{_≡_, refl, sym, _∙_}
-use mathlib.Core.Logic.{⊎-elim}
+use mathlib.Core.Logic.{by-cases, ⊎-elim}
 use mathlib.Core.List.{List}
-use lib.ListN.{length, getD, set, length-set}
+use lib.ListN.{length, getD, set, replicate, length-set}
 use lib.Seq.{getD-set-same, getD-set-other}
 use borrow.Author.Tests.{eq-eqb, ne-eqb}
 use Rattle.diagram.specs.Table.{sequence}
@@ -14,7 +15,7 @@ use Rattle.diagram.proofs.Places.{sequence-length, sequence-snoc}
 use Rattle.scoring.specs.Passes.{over}
 use Rattle.scoring.proofs.Over.{over-next}
 use Rattle.layers.specs.Flows.{lowKept}
-use Rattle.layers.specs.Weighed.{Weighted, lossOf}
+use Rattle.layers.specs.Weighed.{Weighted, Numbered, lossOf}
 
 -- ---------------------------------------------------------------------------
 -- An array written from the front
@@ -90,6 +91,69 @@ low-closed w e = simp (eq-eqb _ _ e)
 pub low-open : {m : ℕ} (w : ℕ) → (m ≡ 1 → ⊥) → w ≡ lowKept m w
 unfolding lowKept
 low-open w f = simp (ne-eqb _ _ f)
+
+-- ---------------------------------------------------------------------------
+-- The cells of arcs
+
+zeros-small : (n a : ℕ) → getD (replicate n 0) a 0 < 512
+zeros-small zero a = omega arith
+zeros-small (suc n) zero = omega arith
+zeros-small (suc n) (suc a) = zeros-small n a
+
+set-small : (l : List ℕ) (i x : ℕ) → i < length l → x < 512 → ((a : ℕ) → getD l a 0 < 512) → (a : ℕ) → getD (set l i x) a 0 < 512
+set-small l i x h small before a =
+    by-cases (ℕ-discrete a i)
+    (λ e. rw (e, getD-set-same l i x 0 h) small)
+    (λ ne. rw (getD-set-other l i a x 0 ne) (before a))
+
+-- the root's cell alone is numbered to begin with
+pub number-none : (order : List ℕ) {numbers : List ℕ} → length numbers ≡ 512 → numbers ≡ replicate 512 0 → Numbered 0 order (set numbers 1 1)
+number-none order {numbers} size e =
+    record {
+      root = getD-set-same numbers 1 1 0 (omega arith);
+      highs = λ i h. absurd (omega arith);
+      lows = λ i h. absurd (omega arith);
+      few = set-small numbers 1 1 (omega arith) (omega arith) (λ a. rw e (zeros-small 512 a));
+    }
+
+-- the cells of the node at rank i are numbered, which is no node before
+module _ {n : ℕ} {order : List ℕ} (most : n ≤ 254) (nodes : (i : ℕ) → i < n → (2 ≤ getD order i 0) × (getD order i 0 < 256)) (distinct : (i j : ℕ) → i < n → j < n → getD order i 0 ≡ getD order j 0 → i ≡ j) where
+  pub number-next : {i m : ℕ} {numbers : List ℕ} → i < n → length numbers ≡ 512 → Numbered i order numbers → m ≡ getD order i 0 → Numbered (i + 1) order (set (set numbers m (i + 2)) (m + 256) (i + 258))
+  number-next {i} {m} {numbers} rank size w em =
+      let node = nodes i rank in
+      let first = set numbers m (i + 2) in
+      let size′ : length first ≡ 512 = simp length-set size in
+      let other : (j : ℕ) → j < i → getD order j 0 ≡ m → ⊥ = λ j less e. let same = distinct j i (omega arith) rank (e ∙ em) in omega arith in
+      record {
+        root =
+            getD-set-other first (m + 256) 1 (i + 258) 0 (omega arith)
+            ∙ getD-set-other numbers m 1 (i + 2) 0 (omega arith)
+            ∙ w .root;
+        highs =
+            λ j h.
+            let at = nodes j (omega arith) in
+            getD-set-other first (m + 256) (getD order j 0) (i + 258) 0 (omega arith)
+            ∙ ⊎-elim
+            (λ (e : j ≡ i). rw (e, ← em) (getD-set-same numbers m (i + 2) 0 (omega arith)))
+            (λ (less : j < i). getD-set-other numbers m (getD order j 0) (i + 2) 0 (other j less) ∙ w .highs j less)
+            (eq-or-lt-of-le {n = j} {m = i} (omega arith));
+        lows =
+            λ j h.
+            let at = nodes j (omega arith) in
+            ⊎-elim
+            (λ (e : j ≡ i). rw (e, ← em) (getD-set-same first (m + 256) (i + 258) 0 (omega arith)))
+            (λ (less : j < i).
+            getD-set-other first (m + 256) (getD order j 0 + 256) (i + 258) 0 (λ e. other j less (omega arith))
+            ∙ getD-set-other numbers m (getD order j 0 + 256) (i + 2) 0 (omega arith)
+            ∙ w .lows j less)
+            (eq-or-lt-of-le {n = j} {m = i} (omega arith));
+        few = set-small first (m + 256) (i + 258) (omega arith) (omega arith) (set-small numbers m (i + 2) (omega arith) (omega arith) (w .few));
+      }
+
+pub number-all : {order : List ℕ} {i n : ℕ} {numbers : List ℕ} → i ≤ n → n ≤ i → Numbered i order numbers → Numbered n order numbers
+number-all {order} {i} {n} h l w =
+    let end : n ≡ i = omega arith in
+    rw end w
 
 -- ---------------------------------------------------------------------------
 -- Losses

@@ -11,18 +11,18 @@ use Rattle.layers.proofs.walk.enter.Statement.{statement}
 use Rattle.layers.proofs.walk.enter.Tie as tie
 
 abbrev Inv-loop : tie.InvT-loop
-Inv-loop order starts sources arcs losses cells₀ from to drop₀ i₀ cells drop i =
+Inv-loop starts sources arcs losses cells₀ from to drop₀ i₀ cells drop i =
     (from ≤ i)
     × (i ≤ to)
     × (length cells ≡ 512)
-    × (cells ≡ ownNodes (record { order = order; starts = starts; sources = sources; arcs = arcs }) from (i - from) cells₀)
-    × (drop ≡ dropSum (record { order = order; starts = starts; sources = sources; arcs = arcs }) losses from (i - from) cells₀)
+    × (cells ≡ ownNodes (record { starts = starts; sources = sources; arcs = arcs }) from (i - from) cells₀)
+    × (drop ≡ dropSum (record { starts = starts; sources = sources; arcs = arcs }) losses from (i - from) cells₀)
 
 abbrev μ-loop : tie.MeasureT-loop
-μ-loop order starts sources arcs losses cells₀ from to drop₀ i₀ cells drop i = to - i
+μ-loop starts sources arcs losses cells₀ from to drop₀ i₀ cells drop i = to - i
 
 abbrev layers : tie.Start Inv-loop μ-loop → Layers
-layers c = record { order = c .args .order .now; starts = c .args .starts .now; sources = c .args .sources .now; arcs = c .args .arcs .now }
+layers c = record { starts = c .args .starts .now; sources = c .args .sources .now; arcs = c .args .arcs .now }
 
 loop-holds : tie.Need-loop-holds Inv-loop μ-loop
 loop-holds c = (le-refl _, c .pre .0, c .pre .1, own-none (layers c) _ _, drop-none (layers c) _ _ _)
@@ -43,35 +43,28 @@ flow-at-requires c κs =
       own-fits (layers start) _ _ (inv .0) (c .before .loop-test .taken) (start .pre .2 .3) (inv .3),
     )
 
-node-at-requires : tie.Need-node-at-requires Inv-loop μ-loop
-node-at-requires c κs =
-    let sized = c .before .before .before .before .before .pre .2 .1 in
-    let less = rank (c .before .before .before) in
-    let few = sized .few in
-    (omega arith, sized .nodes _ less .1)
-
-put-both-requires : tie.Need-put-both-requires Inv-loop μ-loop
-put-both-requires c κs = c .before .before .before .before .before .loop .inv .2
-
--- the rank is within the losses
+-- and so it is small
 small : (c : tie.In-loop Inv-loop μ-loop) → c .before .loop .i < 254
 small c =
     let few = c .before .before .pre .2 .1 .few in
     let less = rank c in
     omega arith
 
+put-both-requires : tie.Need-put-both-requires Inv-loop μ-loop
+put-both-requires c κs = (small (c .before .before .before), c .before .before .before .before .loop .inv .2)
+
 mul-drop : tie.Need-mul-drop Inv-loop μ-loop
-mul-drop c = omega (arith, small (c .before .before .before .before .before))
+mul-drop c = omega (arith, small (c .before .before .before .before))
 
 element-copy-out-drop : tie.Need-element-copy-out-drop Inv-loop μ-loop
-element-copy-out-drop c = omega (arith, small (c .before .before .before .before .before))
+element-copy-out-drop c = omega (arith, small (c .before .before .before .before))
 
 -- the drop with one node more
-sum : (c : tie.After-drop Inv-loop μ-loop) → c .before .before .before .before .before .before .before .loop .drop + c .before .before .before .before .flow-at .result * getD (c .before .before .before .before .before .before .before .before .args .losses .now) (c .before .before .before .before .before .before .before .loop .i) 0 ≤ 2 ^ 56
+sum : (c : tie.After-drop Inv-loop μ-loop) → c .before .before .before .before .before .before .loop .drop + c .before .before .before .flow-at .result * getD (c .before .before .before .before .before .before .before .args .losses .now) (c .before .before .before .before .before .before .loop .i) 0 ≤ 2 ^ 56
 sum c =
-    let at = c .before .before .before .before .before .before .before in
+    let at = c .before .before .before .before .before .before in
     let inv = at .loop .inv in
-    drop-fits (layers (at .before)) _ _ _ (inv .0) (c .before .before .before .before .before .before .loop-test .taken) (at .before .pre .2 .4) (inv .3) (c .before .before .before .before .flow-at .ensures) (inv .4)
+    drop-fits (layers (at .before)) _ _ _ (inv .0) (c .before .before .before .before .before .loop-test .taken) (at .before .pre .2 .4) (inv .3) (c .before .before .before .flow-at .ensures) (inv .4)
 
 mul-drop-2 : tie.Need-mul-drop-2 Inv-loop μ-loop
 mul-drop-2 c = omega (arith, sum c)
@@ -80,20 +73,20 @@ add-drop : tie.Need-add-drop Inv-loop μ-loop
 add-drop c = omega (arith, sum c)
 
 add-i : tie.Need-add-i Inv-loop μ-loop
-add-i c = omega (arith, small (c .before .before .before .before .before .before))
+add-i c = omega (arith, small (c .before .before .before .before .before))
 
 loop-less : tie.Need-loop-less Inv-loop μ-loop
 loop-less c = omega arith
 
 loop-again : tie.Need-loop-again Inv-loop μ-loop
 loop-again c =
-    let at = c .before .before .before .before .before .before .before in
+    let at = c .before .before .before .before .before .before in
     let inv = at .loop .inv in
-    let flow = c .before .before .before .before .flow-at .ensures in (
+    let flow = c .before .before .before .flow-at .ensures in (
       omega arith,
       omega arith,
       rw (c .before .put-both .ensures, put-length) (inv .2),
-      own-next (layers (at .before)) _ _ (inv .0) (inv .3) (c .before .before .node-at .ensures) flow (c .before .put-both .ensures),
+      own-next (layers (at .before)) _ _ (inv .0) (inv .3) flow (c .before .put-both .ensures),
       drop-next (layers (at .before)) _ _ _ (inv .0) (inv .3) flow (inv .4),
     )
 
@@ -112,7 +105,6 @@ enter-spec =
     μ-loop
     loop-holds
     flow-at-requires
-    node-at-requires
     put-both-requires
     mul-drop
     element-copy-out-drop

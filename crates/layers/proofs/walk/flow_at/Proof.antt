@@ -29,7 +29,7 @@ element-copy-out-flow-2 : tie.Need-element-copy-out-flow-2
 element-copy-out-flow-2 c = search needs
 
 -- the arcs end within their list
-end : (c : tie.After-flow-arg2) → getD (c .before .before .args .starts .now) (c .before .before .args .i + 1) 0 ≤ 512
+end : (c : tie.After-flow-arg2) → getD (c .before .before .args .starts .now) (c .before .before .args .i + 1) 0 ≤ 1024
 end c =
     let start = c .before .before in
     let less = start .pre .2 in
@@ -42,7 +42,7 @@ flow-requires : tie.Need-flow-requires
 unfolding inflow
 flow-requires c κs =
     let start = c .before .before in
-    (start .pre .1 .rising (start .args .i) (start .pre .2), end c, start .pre .1 .sources, start .pre .3)
+    (start .pre .1 .pairs (start .args .i) (start .pre .2), end c, start .pre .1 .sources, start .pre .3)
 
 returns : tie.Need-returns
 unfolding inflow

@@ -3,19 +3,19 @@
 use Prim.Native.Nat.{_-_, _≤_, _<_}
 use native.Mathlib.Nat.{le-refl}
 use native.Mathlib.Omega.{arith}
-use mathlib.Core.Path.{_≡_}
-use lib.ListN.{length, getD}
+use mathlib.Core.Path.{_≡_, refl}
+use lib.ListN.{length}
 use Rattle.layers.specs.Layers.{leaveNodes}
 use Rattle.layers.proofs.Walking.{leave-none, leave-next, leave-all, put-length}
 use Rattle.layers.proofs.walk.leave_layer.Statement.{statement}
 use Rattle.layers.proofs.walk.leave_layer.Tie as tie
 
 abbrev Inv-loop : tie.InvT-loop
-Inv-loop order lines cells₀ unsettled to i₀ cells i =
-    (i₀ ≤ i) × (i ≤ to) × (length cells ≡ 512) × (cells ≡ leaveNodes order i₀ (i - i₀) cells₀)
+Inv-loop lines cells₀ unsettled to i₀ cells i =
+    (i₀ ≤ i) × (i ≤ to) × (length cells ≡ 512) × (cells ≡ leaveNodes i₀ (i - i₀) cells₀)
 
 abbrev μ-loop : tie.MeasureT-loop
-μ-loop order lines cells₀ unsettled to i₀ cells i = to - i
+μ-loop lines cells₀ unsettled to i₀ cells i = to - i
 
 sub-wide : tie.Need-sub-wide Inv-loop μ-loop
 sub-wide c = omega arith
@@ -41,48 +41,48 @@ loop-holds c =
       le-refl _,
       rw (c .wide2 .ensures .0, c .before .before .wide .ensures .0) (start .pre .3),
       start .pre .2,
-      leave-none _ _ _,
+      leave-none _ _,
     )
 
--- the rank of a turn is within the order, and that of a node
-rank : (c : tie.In-loop Inv-loop μ-loop) → c .before .loop .i < 256
+-- the rank of a turn is that of a node
+rank : (c : tie.In-loop Inv-loop μ-loop) → c .before .loop .i < 254
 rank c =
-    let few = c .before .before .before .before .wide .ensures .1 in
+    let few = c .before .before .before .before .before .before .pre .4 in
+    let end = c .before .before .before .before .wide .ensures .0 in
     omega arith
 
-node : (c : tie.In-loop Inv-loop μ-loop) → getD (c .before .before .before .before .before .before .args .order .now) (c .before .loop .i) 0 < 256
-node c =
-    c .before .before .before .before .before .before .pre .4 (c .before .loop .i) (rw (← c .before .before .before .before .wide .ensures .0) (c .loop-test .taken))
+add-w : tie.Need-add-w Inv-loop μ-loop
+add-w c = omega (arith, rank c)
 
-node-at-requires : tie.Need-node-at-requires Inv-loop μ-loop
-node-at-requires c κs = (omega (arith, rank c), node c)
+mul-w : tie.Need-mul-w Inv-loop μ-loop
+mul-w c = omega (arith, rank c)
 
-high-cell-requires : tie.Need-high-cell-requires Inv-loop μ-loop
-high-cell-requires c κs = tt
+element-copy-out-w : tie.Need-element-copy-out-w Inv-loop μ-loop
+element-copy-out-w c = omega (arith, rank c)
 
 put-both-requires : tie.Need-put-both-requires Inv-loop μ-loop
-put-both-requires c κs = c .before .before .before .before .before .loop .inv .2
+put-both-requires c κs = (rank (c .before .before), c .before .before .before .loop .inv .2)
 
 add-i : tie.Need-add-i Inv-loop μ-loop
-add-i c = omega (arith, rank (c .before .before .before .before .before))
+add-i c = omega (arith, rank (c .before .before .before))
 
 loop-less : tie.Need-loop-less Inv-loop μ-loop
 loop-less c = omega arith
 
 loop-again : tie.Need-loop-again Inv-loop μ-loop
 loop-again c =
-    let inv = c .before .before .before .before .before .before .loop .inv in (
+    let inv = c .before .before .before .before .loop .inv in (
       omega arith,
       omega arith,
       rw (c .put-both .ensures, put-length) (inv .2),
-      leave-next _ _ _ (inv .0) (inv .3) (c .before .before .before .before .node-at .ensures) (c .before .before .high-cell .ensures) (c .put-both .ensures),
+      leave-next _ _ (inv .0) (inv .3) refl (c .put-both .ensures),
     )
 
 returns : tie.Need-returns Inv-loop μ-loop
 returns c =
     let inv = c .before .loop .inv in
     let end = c .loop-test .left in
-    rw (← c .before .before .wide2 .ensures .0, ← c .before .before .before .before .wide .ensures .0) (leave-all _ _ _ (inv .1) (omega arith) (inv .3))
+    rw (← c .before .before .wide2 .ensures .0, ← c .before .before .before .before .wide .ensures .0) (leave-all _ _ (inv .1) (omega arith) (inv .3))
 
 pub leave-layer-spec : {M : Type 1} → statement M
 leave-layer-spec =
@@ -97,8 +97,9 @@ leave-layer-spec =
     element-copy-out-wide-2
     wide-requires-2
     loop-holds
-    node-at-requires
-    high-cell-requires
+    add-w
+    mul-w
+    element-copy-out-w
     put-both-requires
     add-i
     loop-less

@@ -11,17 +11,17 @@ use Rattle.layers.proofs.walk.pass.Statement.{statement}
 use Rattle.layers.proofs.walk.pass.Tie as tie
 
 abbrev Inv-loop : tie.InvT-loop
-Inv-loop order starts sources arcs cells₀ from to i₀ cells i =
+Inv-loop starts sources arcs cells₀ from to i₀ cells i =
     (from ≤ i)
     × (i ≤ to)
     × (length cells ≡ 512)
-    × (cells ≡ passNodes (record { order = order; starts = starts; sources = sources; arcs = arcs }) from (i - from) cells₀)
+    × (cells ≡ passNodes (record { starts = starts; sources = sources; arcs = arcs }) from (i - from) cells₀)
 
 abbrev μ-loop : tie.MeasureT-loop
-μ-loop order starts sources arcs cells₀ from to i₀ cells i = to - i
+μ-loop starts sources arcs cells₀ from to i₀ cells i = to - i
 
 abbrev layers : tie.Start Inv-loop μ-loop → Layers
-layers c = record { order = c .args .order .now; starts = c .args .starts .now; sources = c .args .sources .now; arcs = c .args .arcs .now }
+layers c = record { starts = c .args .starts .now; sources = c .args .sources .now; arcs = c .args .arcs .now }
 
 loop-holds : tie.Need-loop-holds Inv-loop μ-loop
 loop-holds c = (le-refl _, c .pre .0, c .pre .1, pass-none (layers c) _ _)
@@ -42,32 +42,30 @@ flow-at-requires c κs =
       pass-fits (layers start) _ _ (inv .0) (c .before .loop-test .taken) (start .pre .2 .3) (inv .3),
     )
 
-node-at-requires : tie.Need-node-at-requires Inv-loop μ-loop
-node-at-requires c κs =
-    let sized = c .before .before .before .before .before .pre .2 .1 in
-    let less = rank (c .before .before .before) in
-    let few = sized .few in
-    (omega arith, sized .nodes _ less .1)
+-- and so it is small
+small : (c : tie.In-loop Inv-loop μ-loop) → c .before .loop .i < 254
+small c =
+    let few = c .before .before .pre .2 .1 .few in
+    let less = rank c in
+    omega arith
 
 put-both-requires : tie.Need-put-both-requires Inv-loop μ-loop
-put-both-requires c κs = c .before .before .before .before .before .loop .inv .2
+put-both-requires c κs = (small (c .before .before .before), c .before .before .before .before .loop .inv .2)
 
 add-i : tie.Need-add-i Inv-loop μ-loop
-add-i c =
-    let few = c .before .before .before .before .before .before .before .pre .2 .1 .few in
-    omega (arith, rank (c .before .before .before .before .before))
+add-i c = omega (arith, small (c .before .before .before .before))
 
 loop-less : tie.Need-loop-less Inv-loop μ-loop
 loop-less c = omega arith
 
 loop-again : tie.Need-loop-again Inv-loop μ-loop
 loop-again c =
-    let at = c .before .before .before .before .before .before in
+    let at = c .before .before .before .before .before in
     let inv = at .loop .inv in (
       omega arith,
       omega arith,
       rw (c .put-both .ensures, put-length) (inv .2),
-      pass-next (layers (at .before)) _ _ (inv .0) (inv .3) (c .before .node-at .ensures) (c .before .before .before .flow-at .ensures) (c .put-both .ensures),
+      pass-next (layers (at .before)) _ _ (inv .0) (inv .3) (c .before .before .flow-at .ensures) (c .put-both .ensures),
     )
 
 returns : tie.Need-returns Inv-loop μ-loop
@@ -83,7 +81,6 @@ pass-spec =
     μ-loop
     loop-holds
     flow-at-requires
-    node-at-requires
     put-both-requires
     add-i
     loop-less

@@ -11,12 +11,12 @@ use Rattle.layers.proofs.weigh.pick_arcs.Statement.{statement}
 use Rattle.layers.proofs.weigh.pick_arcs.Tie as tie
 
 abbrev Inv-loop : tie.InvT-loop
-Inv-loop count sources weights arcs₀ j₀ arcs j =
+Inv-loop count list weights arcs₀ j₀ arcs j =
     (j ≤ count)
-    × (arcs ≡ over (sequence (λ (j : ℕ). getD weights (getD sources j 0) 0) 0 j) arcs₀)
+    × (arcs ≡ over (sequence (λ (j : ℕ). getD weights (getD list j 0) 0) 0 j) arcs₀)
 
 abbrev μ-loop : tie.MeasureT-loop
-μ-loop count sources weights arcs₀ j₀ arcs j = count - j
+μ-loop count list weights arcs₀ j₀ arcs j = count - j
 
 loop-holds : tie.Need-loop-holds Inv-loop μ-loop
 loop-holds c = (omega arith, write-none _ _)
@@ -28,7 +28,7 @@ element-copy-out-a : tie.Need-element-copy-out-a Inv-loop μ-loop
 element-copy-out-a c = omega arith
 
 -- an arc's number is within the weights
-source : (c : tie.After-a Inv-loop μ-loop) → getD (c .before .before .before .args .sources .now) (c .before .before .loop .j) 0 < 512
+source : (c : tie.After-a Inv-loop μ-loop) → getD (c .before .before .before .args .list .now) (c .before .before .loop .j) 0 < 512
 source c = c .before .before .before .pre .2 (c .before .before .loop .j)
 
 cast-a : tie.Need-cast-a Inv-loop μ-loop
