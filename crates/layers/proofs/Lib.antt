@@ -4,6 +4,7 @@ pub mod Flows
 pub mod Joining
 pub mod Chaining
 pub mod Ordering
+pub mod Laying
 pub mod Arranging
 pub mod Walking
 pub mod Weighing

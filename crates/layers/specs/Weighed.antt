@@ -1,10 +1,15 @@
--- What the arrays of weights, cells and losses hold.
+-- What the arrays of weights, cells and losses hold, and the arcs laid out.
 use Prim.Native.Nat.{ℕ, _+_, _-_, _*_, _<_}
 use mathlib.Core.Path.{_≡_}
 use mathlib.Core.Bool.{cond}
 use mathlib.Core.List.{List}
-use lib.ListN.{length, getD}
+use lib.ListN.{length, getD, replicate}
 use lib.Dec.{eqb}
+use Rattle.diagram.specs.Table.{sequence}
+use Rattle.scoring.specs.Passes.{over, highInForce, markAtNode}
+use Rattle.layers.specs.Chains.{placed, arcsInOrder}
+use Rattle.layers.specs.Layers.{Layers}
+use Rattle.layers.specs.Flows.{lowKept}
 
 -- The weights of the arcs of n records, by the arcs' numbers: the hi arcs', the lo arcs', 1 for the root's own, and 0 for the number that no arc has
 pub record Weighted (n : ℕ) (high low : ℕ → ℕ) (weights : List ℕ) : Type 0 where
@@ -19,6 +24,18 @@ pub record Numbered (n : ℕ) (order numbers : List ℕ) : Type 0 where
   pub highs : (i : ℕ) → i < n → getD numbers (getD order i 0) 0 ≡ i + 2
   pub lows : (i : ℕ) → i < n → getD numbers (getD order i 0 + 256) 0 ≡ i + 258
   pub few : (a : ℕ) → getD numbers a 0 < 512
+
+-- The arcs into n nodes in order, laid out: the list of their numbers, and for each arc of it its weight and the cell that it starts from
+pub record Laid (n : ℕ) (positions high low highArcs lowArcs marks order : List ℕ) (l : Layers) : Type 0 where
+  pub list : List ℕ
+  pub listed : list ≡ placed (replicate 1024 0) 0 (arcsInOrder high low order n n)
+  pub started : l .starts ≡ over (sequence (λ x. length (arcsInOrder high low order n x)) 0 (n + 1)) (replicate 256 0)
+  pub weights : List ℕ
+  pub weighed : Weighted n (λ k. highInForce (markAtNode positions marks k) (getD highArcs (k + 2) 0)) (λ k. lowKept (markAtNode positions marks k) (getD lowArcs (k + 2) 0)) weights
+  pub numbers : List ℕ
+  pub numbered : Numbered n order numbers
+  pub arcs : l .arcs ≡ over (sequence (λ j. getD weights (getD list j 0) 0) 0 (getD (l .starts) n 0)) (replicate 1024 0)
+  pub sources : l .sources ≡ over (sequence (λ j. getD numbers (getD list j 0) 0) 0 (getD (l .starts) n 0)) (replicate 1024 0)
 
 -- What leaving its line loses of node m's value, where the line is open, and else 0
 unfoldable pub lossOf : (positions marks low lowArcs values : List ℕ) → (m : ℕ) → ℕ

@@ -2,16 +2,13 @@
 // the values of the nodes from its position on do not change, and only path weights do. So a visit hands path weights on from
 // one open line to the next, over the nodes between the two.
 mod chains;
+mod lay;
 mod order;
 mod walk;
 mod weigh;
 
-pub use order::order_arcs;
+pub use lay::lay_arcs;
 pub use order::order_records;
 pub use walk::enter_layer;
 pub use walk::leave_layer;
-pub use weigh::number_cells;
-pub use weigh::pick_arcs;
-pub use weigh::pick_cells;
-pub use weigh::weigh_arcs;
 pub use weigh::weigh_losses;

@@ -56,7 +56,7 @@ fn low_kept(mark: u8, arc: u64) -> u64
     if mark == Plan::TAKEN { 0 } else { arc }
 }
 
-// The cells of the arcs of the first n nodes of the order, by the arcs' numbers: `arrange` hands in zeros, and an order in which
+// The cells of the arcs of the first n nodes of the order, by the arcs' numbers: `lay_arcs` hands in zeros, and an order in which
 // no node stands twice, as `order_records` leaves it.
 pub fn number_cells(n: usize, order: &[u16; 1024], numbers: &mut [u16; 512])
     requires nodes { ⌜ (n ≤ 254) × ((i : ℕ) → i < n → (2 ≤ getD (now order) i 0) × (getD (now order) i 0 < 256)) × ((i j : ℕ) → i < n → j < n → getD (now order) i 0 ≡ getD (now order) j 0 → i ≡ j) ⌝ }

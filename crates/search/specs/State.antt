@@ -16,9 +16,9 @@ use Rattle.scoring.specs.Value.{place, gap, highArc, lowArc}
 use Rattle.scoring.specs.Passes.{over, byNode, Decoded, marksByPosition, highInForce, markAtNode}
 use Rattle.sweep.specs.Drops.{LargestFailing}
 use Rattle.rule.specs.Rule.{terms, rule}
-use Rattle.layers.specs.Chains.{pick, joined, placed, arcsInOrder}
+use Rattle.layers.specs.Chains.{pick, joined, placed}
 use Rattle.layers.specs.Layers.{Layers}
-use Rattle.layers.specs.Weighed.{Weighted, Numbered}
+use Rattle.layers.specs.Weighed.{Laid}
 use Rattle.layers.specs.Flows.{lowKept, Layered, Line, Settles, Right, Same, rankSum, atSum}
 
 -- ---------------------------------------------------------------------------
@@ -153,17 +153,7 @@ pub record Ordered (s p : List ℕ) (n : ℕ) (positions high low highArcs lowAr
   pub marking : marks ≡ marksByPosition (tableOf s) p
   pub nodes : order ≡ placed (replicate 1024 0) 0 (joined (λ x. pick positions 0 x n) (length (tableOf s .variables)))
   pub ending : ends ≡ over (sequence (λ x. length (joined (λ y. pick positions 0 y n) x)) 0 (length (tableOf s .variables) + 1)) (replicate 256 0)
-  pub list : List ℕ
-  pub listed : list ≡ placed (replicate 1024 0) 0 (arcsInOrder high low order n n)
-  pub started : l .starts ≡ over (sequence (λ x. length (arcsInOrder high low order n x)) 0 (n + 1)) (replicate 256 0)
-  pub weights : List ℕ
-  pub weighed : Weighted n (λ k. highInForce (markAtNode positions marks k) (getD highArcs (k + 2) 0)) (λ k. lowKept (markAtNode positions marks k) (getD lowArcs (k + 2) 0)) weights
-  pub numbers : List ℕ
-  pub numbered : Numbered n order numbers
-  pub count : ℕ
-  pub all : count ≡ getD (l .starts) n 0
-  pub arcs : l .arcs ≡ over (sequence (λ j. getD weights (getD list j 0) 0) 0 count) (replicate 1024 0)
-  pub sources : l .sources ≡ over (sequence (λ j. getD numbers (getD list j 0) 0) 0 count) (replicate 1024 0)
+  pub laid : Laid n positions high low highArcs lowArcs marks order l
 
 -- `ends` has how many nodes of the order stand before each position: those before stand there, those from there to the next at it, and those after later
 pub record Ending (t : Table) (order ends : List ℕ) : Type 0 where

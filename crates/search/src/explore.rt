@@ -5,12 +5,8 @@ use crate::lines::open_lines;
 use crate::visit::visit;
 use diagram::Node;
 use diagram::Plan;
-use layers::number_cells;
-use layers::order_arcs;
+use layers::lay_arcs;
 use layers::order_records;
-use layers::pick_arcs;
-use layers::pick_cells;
-use layers::weigh_arcs;
 use layers::weigh_losses;
 use reading::record_count;
 use reading::variable_count;
@@ -178,17 +174,22 @@ fn arrange(
         &mut order,
         &mut ends,
     );
-    let mut list = [0u16; 1024];
     let mut starts = [0u16; 256];
-    order_arcs(n, high, low, &order, &mut list, &mut starts);
-    let mut weights = [0u64; 512];
-    weigh_arcs(n, positions, &marks, high_arcs, low_arcs, &mut weights);
-    let mut arcs = [0u64; 1024];
-    pick_arcs(starts[n] as usize, &list, &weights, &mut arcs);
-    let mut numbers = [0u16; 512];
-    number_cells(n, &order, &mut numbers);
     let mut sources = [0u16; 1024];
-    pick_cells(starts[n] as usize, &list, &numbers, &mut sources);
+    let mut arcs = [0u64; 1024];
+    lay_arcs(
+        n,
+        positions,
+        high,
+        low,
+        high_arcs,
+        low_arcs,
+        &marks,
+        &order,
+        &mut starts,
+        &mut sources,
+        &mut arcs,
+    );
     evaluate(
         file,
         plan,

@@ -11,7 +11,7 @@ use Rattle.scoring.proofs.Bounding.{records-few}
 use Rattle.scoring.proofs.Passing.{position-within}
 use Rattle.layers.specs.Chains.{joined, placed}
 use Rattle.layers.proofs.Ordering.{nodesAt}
-use Rattle.layers.proofs.Arranging.{nodes-within, nodes-distinct, nodes-few, room-for-arcs, list-few, starts-few}
+use Rattle.layers.proofs.Arranging.{nodes-within, nodes-distinct, room-for-arcs}
 use Rattle.search.proofs.Starting.{arrays-marked, records-placed, order-is}
 use borrow.Author.Needs.{needs}
 use Rattle.search.proofs.explore.arrange.Statement.{statement}
@@ -64,41 +64,23 @@ ended c =
     let a = c .before .before .before .before .before .before .before .args in
     c .order-records .ensures .1 ∙ ap (λ (v : ℕ). over (sequence (λ x. length (joined (nodesAt (a .positions .now) (a .n)) x)) 0 (v + 1)) (replicate 256 0)) (variables (c .before .before .before))
 
-order-arcs-requires : tie.Need-order-arcs-requires
-order-arcs-requires c κs =
-    let m = marked (c .before .before .before .before .before .before .before) in
-    let monotone = passed-monotone (c .before .before .before .before .before .before .before .before .before .before .pre .0) in
-    let n = few (c .before .before .before .before .before .before .before .before .before .before) in
-    let o = ordered (c .before .before .before) in
-    ((n .1, refl, refl, nodes-few m monotone (n .0) o), room-for-arcs m monotone (n .0) o)
-
-weigh-arcs-requires : tie.Need-weigh-arcs-requires
-weigh-arcs-requires c κs = (few (c .before .before .before .before .before .before .before .before .before .before .before .before .before) .1, position-within (marked (c .before .before .before .before .before .before .before .before .before .before)), refl)
-
-mul-pick-arcs : tie.Need-mul-pick-arcs
-mul-pick-arcs c = record { fits = omega (arith, few (c .before .before .before .before .before .before .before .before .before .before .before .before .before .before)) }
-
-array-read-pick-arcs : tie.Need-array-read-pick-arcs
-array-read-pick-arcs c = omega (arith, few (c .before .before .before .before .before .before .before .before .before .before .before .before .before .before))
-
--- where the arcs begin fits
-begun : (c : tie.After-weigh-arcs) → getD (c .before .before .before .order-arcs .last .1 .1 .1 .1 .1 .0) (c .before .before .before .before .before .before .before .before .before .before .before .before .before .before .args .n) 0 ≤ 1024
-begun c =
-    let arcs = c .before .before .before .order-arcs .ensures in
-    starts-few (marked (c .before .before .before .before .before .before .before .before .before .before .before)) (passed-monotone (c .before .before .before .before .before .before .before .before .before .before .before .before .before .before .pre .0)) (few (c .before .before .before .before .before .before .before .before .before .before .before .before .before .before) .0) (ordered (c .before .before .before .before .before .before .before)) refl (arcs .0) (arcs .1) (c .weigh-arcs .ensures) _ (omega arith)
-
-cast-pick-arcs : tie.Need-cast-pick-arcs
-cast-pick-arcs c = record { fits = omega (arith, begun c) }
-
-pick-arcs-requires : tie.Need-pick-arcs-requires
-pick-arcs-requires c κs =
-    let arcs = c .before .before .before .before .before .before .order-arcs .ensures in
-    (begun (c .before .before .before), refl, list-few (marked (c .before .before .before .before .before .before .before .before .before .before .before .before .before .before)) (passed-monotone (c .before .before .before .before .before .before .before .before .before .before .before .before .before .before .before .before .before .pre .0)) (few (c .before .before .before .before .before .before .before .before .before .before .before .before .before .before .before .before .before) .0) (ordered (c .before .before .before .before .before .before .before .before .before .before)) refl (arcs .0) (arcs .1) (c .before .before .before .weigh-arcs .ensures))
+lay-arcs-requires : tie.Need-lay-arcs-requires
+lay-arcs-requires c κs =
+    let laid = c .before .before .before .before .before in
+    let placed = laid .before .before .before .before in
+    let start = placed .before .before .before in
+    let m = marked placed in
+    let monotone = passed-monotone (start .pre .0) in
+    let n = few start in
+    let o = ordered laid in
+    ((n .1, nodes-within m monotone (n .0) o, nodes-distinct m monotone (n .0) o), ((position-within m, room-for-arcs m monotone (n .0) o), (refl, refl, refl)))
 
 evaluate-requires : tie.Need-evaluate-requires
 evaluate-requires c κs =
-    let pre = c .before .before .before .before .before .before .before .before .before .before .before .before .before .before .before .before .before .before .before .before .before .before .before .before .before .before .pre in
-    let arcs = c .before .before .before .before .before .before .before .before .before .before .before .before .before .before .before .order-arcs .ensures in (
+    let laid = c .before .before .before .before .before .before .before .before in
+    let order = laid .before .before .before .before .before .before in
+    let placed = order .before .before .before .before in
+    let pre = placed .before .before .before .pre in (
       pre .0,
       (
         pre .1 .0,
@@ -109,12 +91,10 @@ evaluate-requires c κs =
             (
               pre .1 .1 .1 .1,
               record {
-                marking = c .before .before .before .before .before .before .before .before .before .before .before .before .before .before .before .before .before .before .before .before .before .before .before .marks-by-position .ensures;
-                nodes = ordered (c .before .before .before .before .before .before .before .before .before .before .before .before .before .before .before .before .before .before .before);
-                ending = ended (c .before .before .before .before .before .before .before .before .before .before .before .before .before .before .before .before .before .before .before);
-                sourced = arcs .0;
-                started = arcs .1;
-                weighed = (_, _, c .before .before .before .before .before .before .before .before .before .before .before .before .weigh-arcs .ensures, refl, c .before .before .before .before .before .before .before .before .pick-arcs .ensures);
+                marking = placed .marks-by-position .ensures;
+                nodes = ordered order;
+                ending = ended order;
+                laid = laid .lay-arcs .ensures;
               },
             ),
           ),
@@ -133,11 +113,6 @@ arrange-spec =
     variable-count-requires
     cast-order-records
     order-records-requires
-    order-arcs-requires
-    weigh-arcs-requires
-    mul-pick-arcs
-    array-read-pick-arcs
-    cast-pick-arcs
-    pick-arcs-requires
+    lay-arcs-requires
     evaluate-requires
     returns)

@@ -81,12 +81,15 @@ first-visit-requires c κs =
           pre .1 .1 .0,
           (
             pre .1 .1 .1 .0,
-            (_, record {
-              weighs = pre .1 .1 .1 .1 .0 .weighs;
-              bounded = bound (c .before .before .before);
-              layered = layered m (passed-monotone (pre .0)) (few start .0) (laid .nodes) (values (c .before .before .before .before .before .before .before .before .before)) (laid .listed) (laid .started) (laid .weighed) (laid .numbered) (laid .all) (laid .arcs) (laid .sources) (c .before .before .before .before .before .before .weigh-losses .ensures);
-              ending = ending m refl (laid .nodes) (passed-variables (pre .0) .0) (laid .ending);
-            }),
+            (
+              _,
+              record {
+                weighs = pre .1 .1 .1 .1 .0 .weighs;
+                bounded = bound (c .before .before .before);
+                layered = layered m (passed-monotone (pre .0)) (few start .0) (laid .nodes) (values (c .before .before .before .before .before .before .before .before .before)) (laid .laid) (c .before .before .before .before .before .before .weigh-losses .ensures);
+                ending = ending m refl (laid .nodes) (passed-variables (pre .0) .0) (laid .ending);
+              },
+            ),
           ),
         ),
       ),

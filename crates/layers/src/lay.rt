@@ -1,0 +1,42 @@
+// The arcs of a table laid out for a search.
+use crate::order::order_arcs;
+use crate::weigh::number_cells;
+use crate::weigh::pick_arcs;
+use crate::weigh::pick_cells;
+use crate::weigh::weigh_arcs;
+ghost use mathlib.Core.Path.{_≡_};
+ghost use Prim.Native.Nat.{ℕ, _≤_, _<_};
+ghost use lib.ListN.{length, getD, replicate};
+ghost use Rattle.layers.specs.Chains.{arcsInOrder};
+ghost use Rattle.layers.specs.Weighed.{Laid};
+
+// Lays out the arcs into the first n nodes of the order: where each node's begin, and for each arc the cell that it starts from
+// and its weight. The search hands in zeros, and an accepted table's records, as `order_records` puts them in order.
+pub fn lay_arcs(
+    n: usize,
+    positions: &[u8; 256],
+    high: &[u8; 256],
+    low: &[u8; 256],
+    high_arcs: &[u64; 256],
+    low_arcs: &[u64; 256],
+    marks: &[u8; 64],
+    order: &[u16; 1024],
+    starts: &mut [u16; 256],
+    sources: &mut [u16; 1024],
+    arcs: &mut [u64; 1024],
+)
+    requires nodes { ⌜ (n ≤ 254) × ((i : ℕ) → i < n → (2 ≤ getD (now order) i 0) × (getD (now order) i 0 < 256)) × ((i j : ℕ) → i < n → j < n → getD (now order) i 0 ≡ getD (now order) j 0 → i ≡ j) ⌝ }
+    requires fits { ⌜ ((k : ℕ) → getD (now positions) k 0 < 64) × (length (arcsInOrder (now high) (now low) (now order) n n) ≤ 1024) ⌝ }
+    requires zeros { ⌜ (now starts ≡ replicate 256 0) × (now sources ≡ replicate 1024 0) × (now arcs ≡ replicate 1024 0) ⌝ }
+    ensures { λ _. ⌜ Laid n (now (positions .entry)) (now (high .entry)) (now (low .entry)) (now («high_arcs» .entry)) (now («low_arcs» .entry)) (now (marks .entry)) (now (order .entry)) (record { starts = now (starts .exit); sources = now (sources .exit); arcs = now (arcs .exit) }) ⌝ }
+{
+    let mut list = [0u16; 1024];
+    order_arcs(n, high, low, order, &mut list, starts);
+    let mut weights = [0u64; 512];
+    weigh_arcs(n, positions, marks, high_arcs, low_arcs, &mut weights);
+    let mut numbers = [0u16; 512];
+    number_cells(n, order, &mut numbers);
+    let count = starts[n] as usize;
+    pick_arcs(count, &list, &weights, arcs);
+    pick_cells(count, &list, &numbers, sources);
+}
