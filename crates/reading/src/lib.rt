@@ -12,7 +12,7 @@ pub use answer::ReadAnswer;
 pub use answer::Summary;
 use diagram::Refusal;
 pub use nodes::child_of;
-pub use nodes::decode;
+use nodes::decode;
 pub use nodes::position_of;
 pub use variables::is_choice;
 pub use words::record_count;
