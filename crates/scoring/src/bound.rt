@@ -46,8 +46,8 @@ pub fn upper_bound(
     )
 }
 
-// The score with all open lines taken, from the arrays of a table and a plan, as `lay_out` and `marks_by_position` leave
-// them; the weight handed in is the root's.
+// The score with all open lines taken, from the arrays of a table and a plan, as `read_records`, `lay_out` and
+// `marks_by_position` leave them; the weight handed in is the root's.
 pub fn bound_of(
     n: usize,
     positions: &[u8; 256],

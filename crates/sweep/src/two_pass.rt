@@ -71,7 +71,7 @@ pub fn two_passes(
 }
 
 // One pass up gives the values of the nodes, one pass down their path weights; the weight handed in is the root's. The
-// arrays hold a monotone table and a plan, as `lay_out` and `marks_by_position` leave them.
+// arrays hold a monotone table and a plan, as `read_records`, `lay_out` and `marks_by_position` leave them.
 fn up_and_down(
     n: usize,
     positions: &[u8; 256],

@@ -35,7 +35,7 @@ returns c =
     (sym (shape-refuses _ _ _ e), (column-kept _ _ _ _ _ _ e, (column-kept _ _ _ _ _ _ e, column-kept _ _ _ _ _ _ e)))
 
 decode-requires : tie.Need-decode-requires
-decode-requires c κs = (shape-shaped _ _ (shape (c .before .before .before)), c .before .before .before .before .before .before .before .before .pre)
+decode-requires c κs = (shape-shaped _ _ (shape (c .before .before .before)), search needs)
 
 monotone-fault-requires : tie.Need-monotone-fault-requires
 monotone-fault-requires c κs = held (c .before .before .before)
