@@ -18,8 +18,8 @@ use Rattle.reading.specs.declared.answer.Summary.{Summary}
 use Rattle.reading.specs.declared.answer.ReadAnswer.{ReadAnswer}
 use Rattle.reading.specs.Answer.{outcomeOf}
 use Rattle.reading.proofs.Accepted.{passed-choices}
-use Rattle.reading.proofs.Outcomes.{table-passed, table-choices}
-use Rattle.sweep.proofs.Requesting.{numbers, table-answered}
+use Rattle.reading.proofs.Outcomes.{numbers, table-passed, table-choices}
+use Rattle.sweep.proofs.Requesting.{table-answered}
 use Rattle.search.specs.declared.answer.Finding.{Finding}
 use Rattle.search.specs.declared.answer.SearchAnswer.{SearchAnswer}
 use Rattle.search.specs.declared.answer.SearchAnswer.the-variants.{Found, Refused}

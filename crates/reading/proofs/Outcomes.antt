@@ -1,14 +1,16 @@
--- What a check's enum tells of the list of checks: where it finds nothing the list goes on, and where it finds a place the list stops.
+-- What a check's enum tells of the list of checks: where it finds nothing the list goes on, and where it finds a place the list stops. What reading answers
+-- and what the arrays hold that are lent to it, after the checks 11 to 17 and after all.
 -- Assumes nothing.
 use Prim.Native.Nat.{ℕ}
 use native.Mathlib.Omega.{arith}
 use mathlib.Core.Path.{_≡_, refl, ap, sym, _∙_}
 use mathlib.Core.Option.{Option, none, some}
-use mathlib.Core.List.{List, _∷_}
-use Rattle.diagram.specs.Checks.{Check}
-use Rattle.diagram.specs.Table.{tableOf, variableCount, recordCount, choiceCount, scaleOf, scale}
-use Rattle.diagram.specs.Services.{Outcome, refused, answered, checked, reading, readOutcome, Reading}
-use Rattle.diagram.proofs.Checked.{checked-passes, checked-stops, Passed, read-passed, read-reading}
+use mathlib.Core.List.{List, [], _∷_}
+use lib.ListN.{take, drop}
+use Rattle.diagram.specs.Checks.{Check, monotoneFault, tableChecks}
+use Rattle.diagram.specs.Table.{Record, tableOf, variableCount, recordCount, choiceCount, scaleOf, scale}
+use Rattle.diagram.specs.Services.{Outcome, refused, answered, checked, written, reading, readOutcome, Reading}
+use Rattle.diagram.proofs.Checked.{checked-passes, checked-stops, checked-end, checked-append, checked-answered, checked-refused, Passed, read-passed, read-reading}
 use Rattle.diagram.specs.declared.refusal.Refusal.{Refusal}
 use Rattle.reading.specs.declared.answer.Summary.{Summary}
 use Rattle.reading.specs.declared.answer.ReadAnswer.{ReadAnswer}
@@ -17,7 +19,8 @@ use Rattle.reading.specs.declared.answer.Fault.{Fault}
 use Rattle.reading.specs.declared.answer.Fault.the-variants.{At, Nowhere}
 use Rattle.reading.specs.declared.answer.Bounded.{Bounded}
 use Rattle.reading.specs.declared.answer.Bounded.the-variants.{Within, Above}
-use Rattle.reading.specs.Answer.{outcomeOf, faultOf, boundedBy}
+use Rattle.reading.specs.Answer.{outcomeOf, shapeOutcome, faultOf, boundedBy}
+use Rattle.reading.specs.Nodes.{column, columnOr, Shaped}
 
 -- ---------------------------------------------------------------------------
 -- The enums
@@ -63,29 +66,109 @@ module _ (c : Check) (cs : List Check) (s : List ℕ) where
   pub stops : (i : ℕ) → c .fault s ≡ some i → refused (c .number) i ≡ readFrom (c ∷ cs) s
   stops i e = sym (checked-stops c cs _ s i e)
 
+-- an answer is no refusal
+answered-not-refused : (a : Reading) (n i : ℕ) → answered a ≡ refused n i → ⊥
+answered-not-refused a n i e =
+    let z : _≡_ {A = ℕ} 0 1 = cc in
+    omega arith
+
+-- the first check of a list that answers has passed, and so has the rest
+first-passed : (c : Check) (cs : List Check) {s : List ℕ} (a : Reading) → readFrom (c ∷ cs) s ≡ answered a → (c .fault s ≡ none) × (readFrom cs s ≡ answered a)
+first-passed c cs {s} a e = go (c .fault s) refl
+  where
+    go : (o : Option ℕ) → c .fault s ≡ o → (c .fault s ≡ none) × (readFrom cs s ≡ answered a)
+    go none q = (q, sym (goes-on c cs s q) ∙ e)
+    go (some i) q = absurd (answered-not-refused a (c .number) i (sym e ∙ sym (stops c cs s i q)))
+
 -- the four numbers of an accepted file
 pub summary-is : (s : List ℕ) {v n c x : ℕ} → v ≡ variableCount s → n ≡ recordCount s → c ≡ choiceCount (tableOf s .variables) → x ≡ scaleOf (tableOf s .variables) → answered (record { variables = v; records = n; choices = c; scale = x }) ≡ answered (reading s)
 unfolding reading scale
 summary-is s ev en ec ex = rw (ev, en, ec, ex)
 
 -- ---------------------------------------------------------------------------
+-- The answers of `read_shape` and `read`
+
+-- the four numbers of a summary
+abbrev pub numbers : Summary → Reading
+numbers t = record { variables = t .variables; records = t .records; choices = t .choices; scale = t .scale }
+
+module _ {o : Outcome Reading} {r : ReadAnswer} (promise : outcomeOf r ≡ o) where
+  pub refused-as : (x : Refusal) → r ≡ Refused x → o ≡ refused (x .number) (x .place)
+  unfolding outcomeOf
+  refused-as x e = sym promise ∙ rw e
+
+  pub table-as : (t : Summary) → r ≡ ReadAnswer.Table t → o ≡ answered (numbers t)
+  unfolding outcomeOf
+  table-as t e = sym promise ∙ rw e
+
+-- ---------------------------------------------------------------------------
+-- Reading after the checks 11 to 17
+
+module _ (s : List ℕ) where
+  -- a file that they refuse is refused
+  pub shape-refuses : (n i : ℕ) → shapeOutcome s ≡ refused n i → readOutcome s ≡ refused n i
+  unfolding readOutcome shapeOutcome tableChecks
+  shape-refuses n i e =
+      checked-append s (take 7 tableChecks) (drop 7 tableChecks) _ ∙ checked-refused s (take 7 tableChecks) reading n i _ e
+
+  module _ (a : Reading) (e : shapeOutcome s ≡ answered a) where
+    -- of a file that they let through check 18 is left
+    check-18 : readOutcome s ≡ readFrom (record { number = 18; fault = monotoneFault } ∷ []) s
+    unfolding readOutcome shapeOutcome tableChecks
+    check-18 =
+        checked-append s (take 7 tableChecks) (drop 7 tableChecks) _ ∙ checked-answered s (take 7 tableChecks) reading a _ e
+
+    pub stops-18 : (i : ℕ) → monotoneFault s ≡ some i → refused 18 i ≡ readOutcome s
+    stops-18 i q = stops _ [] s i q ∙ sym check-18
+
+    pub past-18 : monotoneFault s ≡ none → answered a ≡ readOutcome s
+    unfolding shapeOutcome
+    past-18 q =
+        sym e ∙ checked-answered s (take 7 tableChecks) reading a _ e ∙ sym (check-18 ∙ goes-on _ [] s q ∙ checked-end _ s)
+
+    -- the checks 12, 13 and 17 of a file that they let through
+    pub shape-shaped : Shaped s
+    unfolding shapeOutcome tableChecks
+    shape-shaped =
+        let c12 = first-passed _ _ a (first-passed _ _ a e .1) in
+        let c13 = first-passed _ _ a (c12 .1) in
+        let c16 = first-passed _ _ a (first-passed _ _ a (first-passed _ _ a (c13 .1) .1) .1) in
+        let c17 = first-passed _ _ a (c16 .1) in
+        record { heading = c12 .0; count = c13 .0; records = c17 .0 }
+
+-- ---------------------------------------------------------------------------
+-- The arrays that are lent to reading
+
+module _ (s : List ℕ) (end : ℕ) (part : Record → ℕ) (held : List ℕ) where
+  pub column-kept : (n i : ℕ) → shapeOutcome s ≡ refused n i → held ≡ columnOr s end part held
+  unfolding columnOr written
+  column-kept n i e = rw e refl
+
+  pub column-new : (a : Reading) → shapeOutcome s ≡ answered a → column end part (tableOf s .records) ≡ columnOr s end part held
+  unfolding columnOr written
+  column-new a e = rw e refl
+
+  -- an accepted file's records are in the arrays
+  pub column-read : (a : Reading) → readOutcome s ≡ answered a → columnOr s end part held ≡ column end part (tableOf s .records)
+  column-read a e = go (shapeOutcome s) refl
+    where
+      go : (o : Outcome Reading) → shapeOutcome s ≡ o → columnOr s end part held ≡ column end part (tableOf s .records)
+      go (answered b) q = sym (column-new b q)
+      go (refused n i) q = absurd (answered-not-refused a n i (sym e ∙ shape-refuses s n i q))
+
+-- ---------------------------------------------------------------------------
 -- What the answer of `read` tells its callers
 
 module _ (s : List ℕ) {r : ReadAnswer} (promise : outcomeOf r ≡ readOutcome s) where
   pub refused-read : (x : Refusal) → r ≡ Refused x → readOutcome s ≡ refused (x .number) (x .place)
-  unfolding outcomeOf
-  refused-read x e = sym promise ∙ rw e
-
-  table-read-as : (t : Summary) → r ≡ ReadAnswer.Table t → readOutcome s ≡ answered (record { variables = t .variables; records = t .records; choices = t .choices; scale = t .scale })
-  unfolding outcomeOf
-  table-read-as t e = sym promise ∙ rw e
+  refused-read = refused-as promise
 
   pub table-read : (t : Summary) → r ≡ ReadAnswer.Table t → readOutcome s ≡ answered (reading s)
-  table-read t e = table-read-as t e ∙ ap answered (read-reading s _ (table-read-as t e))
+  table-read t e = table-as promise t e ∙ ap answered (read-reading s _ (table-as promise t e))
 
   pub table-passed : (t : Summary) → r ≡ ReadAnswer.Table t → Passed s
-  table-passed t e = read-passed s _ (table-read-as t e)
+  table-passed t e = read-passed s _ (table-as promise t e)
 
   pub table-choices : (t : Summary) → r ≡ ReadAnswer.Table t → t .choices ≡ choiceCount (tableOf s .variables)
   unfolding reading
-  table-choices t e = ap (λ (x : Reading). x .choices) (read-reading s _ (table-read-as t e))
+  table-choices t e = ap (λ (x : Reading). x .choices) (read-reading s _ (table-as promise t e))

@@ -1,7 +1,10 @@
 -- The enums of this crate in the terms of the meaning: each case with the paper's number and values.
 use Prim.Native.Nat.{ℕ}
+use mathlib.Core.List.{List}
 use mathlib.Core.Option.{Option, none, some}
-use Rattle.diagram.specs.Services.{Outcome, refused, answered, Reading}
+use lib.ListN.{take}
+use Rattle.diagram.specs.Checks.{tableChecks}
+use Rattle.diagram.specs.Services.{Outcome, refused, answered, checked, Reading, reading}
 use Rattle.reading.specs.declared.answer.ReadAnswer.{ReadAnswer}
 use Rattle.reading.specs.declared.answer.ReadAnswer.the-variants.{Table, Refused}
 use Rattle.reading.specs.declared.answer.Fault.{Fault}
@@ -14,6 +17,10 @@ unfoldable pub outcomeOf : ReadAnswer → Outcome Reading
 outcomeOf (Table t) =
     answered (record { variables = t .variables; records = t .records; choices = t .choices; scale = t .scale })
 outcomeOf (Refused r) = refused (r .number) (r .place)
+
+-- What comes of the checks 11 to 17, the checks of a table but for the last: a refusal, or what reading answers
+unfoldable pub shapeOutcome : List ℕ → Outcome Reading
+shapeOutcome s = checked (take 7 tableChecks) (λ file. answered (reading file)) s
 
 -- The place that a check finds, if any
 unfoldable pub faultOf : Option ℕ → Fault

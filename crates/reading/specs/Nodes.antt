@@ -10,11 +10,17 @@ use lib.Dec.{eqb, leb}
 use Rattle.diagram.specs.Table.{Record, sequence, recordAt, tableOf, variableCount}
 use Rattle.diagram.specs.Score.{implies}
 use Rattle.diagram.specs.Checks.{headingFault, countFault, recordFault, isMonotoneAt}
+use Rattle.diagram.specs.Services.{written}
 use Rattle.diagram.proofs.Truth.{Formed}
+use Rattle.reading.specs.Answer.{shapeOutcome}
 
 -- One part of every record, at its node's number, with `end` for the two ends. There are 256 nodes at most.
 unfoldable pub column : ℕ → (Record → ℕ) → List Record → List ℕ
 column end part rs = end ∷ end ∷ sequence (λ k. part (recordAt rs k)) 0 254
+
+-- An array that is lent to reading holds such a column where the checks 11 to 17 let the file through, and else what it held
+unfoldable pub columnOr : (file : List ℕ) → ℕ → (Record → ℕ) → (held : List ℕ) → List ℕ
+columnOr s end part held = written (λ _. column end part (tableOf s .records)) (shapeOutcome s) held
 
 -- The records that three such arrays hold
 unfoldable pub recordsOf : (positions high low : List ℕ) → List Record

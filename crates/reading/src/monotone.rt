@@ -6,7 +6,6 @@
 // an array, 256 for each first node.
 use crate::answer::Fault;
 use crate::nodes::child_of;
-use crate::nodes::decode;
 use crate::nodes::position_of;
 use crate::variables::is_choice;
 use crate::words::record_count;
@@ -20,28 +19,29 @@ ghost use lib.Dec.{eqb};
 ghost use Rattle.diagram.specs.Table.{recordCount};
 ghost use Rattle.diagram.specs.Checks.{monotoneFault};
 ghost use Rattle.reading.specs.Answer.{faultOf};
-ghost use Rattle.reading.specs.Nodes.{Shaped, Held, next, isKnown, cell, zeros, Marked, Room, Stack, Explored};
+ghost use Rattle.reading.specs.Nodes.{Held, next, isKnown, cell, zeros, Marked, Room, Stack, Explored};
 
-// Check 18. The checks before have shown what is required.
-pub fn monotone_fault(file: &[u8]) -> Fault
-    requires { ⌜ Shaped (now file) ⌝ }
+// Check 18. The arrays hold the records of a file that the checks before let through.
+pub fn monotone_fault(
+    file: &[u8],
+    positions: &[u8; 256],
+    high: &[u8; 256],
+    low: &[u8; 256],
+) -> Fault
+    requires { ⌜ Held (now file) (now positions) (now high) (now low) ⌝ }
     ensures { λ r. ⌜ r ≡ faultOf (monotoneFault (now (file .entry))) ⌝ }
 {
-    let mut positions = [0u8; 256];
-    let mut high = [0u8; 256];
-    let mut low = [0u8; 256];
     let mut met = [0u64; 1024];
     let mut firsts = [0u8; 128];
     let mut seconds = [0u8; 128];
-    decode(file, &mut positions, &mut high, &mut low);
     first_fault(
         file,
         &mut met,
         &mut firsts,
         &mut seconds,
-        &positions,
-        &high,
-        &low,
+        positions,
+        high,
+        low,
     )
 }
 

@@ -26,7 +26,7 @@ byNode f n = 0 ∷ 0 ∷ sequence f 0 n
 unfoldable pub products : Table → List ℕ
 products t = sequence (λ x. scaleOf (drop x (t .variables))) 0 64
 
--- The arrays that `reading::decode` fills hold the file's records
+-- The arrays that `reading::read_records` fills hold the file's records
 pub record Decoded (s ps hs ls : List ℕ) : Type 0 where
   pub positions : ps ≡ column (variableCount s) (λ (r : Record). r .position) (tableOf s .records)
   pub high : hs ≡ column 0 (λ (r : Record). r .hi) (tableOf s .records)

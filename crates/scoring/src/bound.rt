@@ -13,35 +13,32 @@ ghost use Rattle.diagram.specs.Table.{Table, sequence, tableOf, root, choiceCou
 ghost use Rattle.diagram.specs.Plans.{openTaken, upperBound};
 ghost use Rattle.diagram.proofs.Checked.{Passed};
 ghost use Rattle.scoring.specs.Value.{place, value, gap};
-ghost use Rattle.scoring.specs.Passes.{over, Marked};
+ghost use Rattle.scoring.specs.Passes.{over, Decoded, Marked};
 
-// The score with all open lines taken, of a file that has passed every check and a plan that checks 21 and 22 let through.
-pub fn upper_bound(file: &[u8], plan: &[u8]) -> u64
+// The score with all open lines taken, of a file that has passed every check and a plan that checks 21 and 22 let through. The
+// arrays hold the file's records.
+pub fn upper_bound(
+    file: &[u8],
+    plan: &[u8],
+    positions: &[u8; 256],
+    high: &[u8; 256],
+    low: &[u8; 256],
+) -> u64
     requires passed { ⌜ Passed (now file) ⌝ }
     requires plan { ⌜ (length (now plan) ≡ choiceCount (tableOf (now file) .variables)) × ((i : ℕ) → getD (now plan) i 0 ≤ 2) ⌝ }
+    requires records { ⌜ Decoded (now file) (now positions) (now high) (now low) ⌝ }
     ensures { λ r. ⌜ r ≡ upperBound (tableOf (now (file .entry))) (now (plan .entry)) ⌝ }
 {
     let n = record_count(file);
-    let mut positions = [0u8; 256];
-    let mut high = [0u8; 256];
-    let mut low = [0u8; 256];
     let mut high_arcs = [0u64; 256];
     let mut low_arcs = [0u64; 256];
-    let weight = lay_out(
-        file,
-        n,
-        &mut positions,
-        &mut high,
-        &mut low,
-        &mut high_arcs,
-        &mut low_arcs,
-    );
+    let weight = lay_out(file, n, positions, high, low, &mut high_arcs, &mut low_arcs);
     let marks = marks_by_position(file, plan);
     bound_of(
         n,
-        &positions,
-        &high,
-        &low,
+        positions,
+        high,
+        low,
         &high_arcs,
         &low_arcs,
         &marks,
@@ -49,8 +46,8 @@ pub fn upper_bound(file: &[u8], plan: &[u8]) -> u64
     )
 }
 
-// The score with all open lines taken, from the arrays of a table and a plan, as `lay_out` and `marks_by_position` leave
-// them; the weight handed in is the root's.
+// The score with all open lines taken, from the arrays of a table and a plan, as `read_records`, `lay_out` and
+// `marks_by_position` leave them; the weight handed in is the root's.
 pub fn bound_of(
     n: usize,
     positions: &[u8; 256],
@@ -79,7 +76,7 @@ pub fn bound_of(
 }
 
 // The values of all nodes under the marks in force, an open line counting as taken. The arrays hold a table and a plan, as
-// `decode`, `arc_weights` and `marks_by_position` leave them.
+// `read_records`, `arc_weights` and `marks_by_position` leave them.
 pub fn values_of(
     n: usize,
     positions: &[u8; 256],

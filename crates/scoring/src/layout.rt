@@ -3,7 +3,6 @@ use crate::arcs::arc_weights;
 use crate::arcs::products;
 use diagram::Node;
 use diagram::Position;
-use reading::decode;
 use reading::position_of;
 ghost use mathlib.Core.Path.{_≡_};
 ghost use Prim.Native.Nat.{_/_, _<_};
@@ -13,25 +12,24 @@ ghost use Rattle.diagram.proofs.Checked.{Passed};
 ghost use Rattle.scoring.specs.Value.{place, gap, highArc, lowArc};
 ghost use Rattle.scoring.specs.Passes.{over, byNode, Decoded};
 
-// Writes a file's records and the weights of their arcs, and answers the product of b before the root. The file has passed
-// every check, and n is its number of records.
+// Writes the weights of the arcs of a file's records, and answers the product of b before the root. The file has passed every
+// check, n is its number of records, and the arrays hold them, as `reading::read_records` leaves them.
 pub fn lay_out(
     file: &[u8],
     n: usize,
-    positions: &mut [u8; 256],
-    high: &mut [u8; 256],
-    low: &mut [u8; 256],
+    positions: &[u8; 256],
+    high: &[u8; 256],
+    low: &[u8; 256],
     high_arcs: &mut [u64; 256],
     low_arcs: &mut [u64; 256],
 ) -> u64
     requires passed { ⌜ Passed (now file) × (n ≡ length (tableOf (now file) .records)) ⌝ }
-    requires sizes { ⌜ (length (now positions) ≡ 256) × (length (now high) ≡ 256) × (length (now low) ≡ 256) × (length (now «high_arcs») ≡ 256) × (length (now «low_arcs») ≡ 256) ⌝ }
-    ensures records { λ _. ⌜ Decoded (now (file .entry)) (now (positions .exit)) (now (high .exit)) (now (low .exit)) ⌝ }
+    requires records { ⌜ Decoded (now file) (now positions) (now high) (now low) ⌝ }
+    requires sizes { ⌜ (length (now «high_arcs») ≡ 256) × (length (now «low_arcs») ≡ 256) ⌝ }
     ensures high { λ _. ⌜ now («high_arcs» .exit) ≡ over (byNode (highArc (tableOf (now (file .entry)))) n) (now («high_arcs» .entry)) ⌝ }
     ensures low { λ _. ⌜ now («low_arcs» .exit) ≡ over (byNode (lowArc (tableOf (now (file .entry)))) n) (now («low_arcs» .entry)) ⌝ }
     ensures weight { λ r. ⌜ r ≡ gap (tableOf (now (file .entry))) 0 (place (tableOf (now (file .entry))) (root (tableOf (now (file .entry))))) ⌝ }
 {
-    decode(file, positions, high, low);
     let products = products(file);
     arc_weights(
         file,

@@ -22,7 +22,7 @@ pub use pass::pass_up;
 pub use plans::mark_fault;
 use reading::Fault;
 use reading::ReadAnswer;
-use reading::read;
+use reading::read_records;
 ghost use mathlib.Core.Path.{_≡_};
 ghost use Rattle.diagram.specs.Services.{scoreOutcome};
 ghost use Rattle.scoring.specs.Answer.{outcomeOf};
@@ -31,7 +31,10 @@ ghost use Rattle.scoring.specs.Answer.{outcomeOf};
 pub fn score(file: &[u8], plan: &[u8]) -> ScoreAnswer
     ensures { λ r. ⌜ outcomeOf r ≡ scoreOutcome (now (file .entry)) (now (plan .entry)) ⌝ }
 {
-    let t = match read(file) {
+    let mut positions = [0u8; 256];
+    let mut high = [0u8; 256];
+    let mut low = [0u8; 256];
+    let t = match read_records(file, &mut positions, &mut high, &mut low) {
         ReadAnswer::Table(t) => t,
         ReadAnswer::Refused(r) => return ScoreAnswer::Refused(r),
     };
@@ -41,7 +44,7 @@ pub fn score(file: &[u8], plan: &[u8]) -> ScoreAnswer
     if let Fault::At(place) = plans::full_plan_fault(plan) {
         return refuse(22, place);
     }
-    ScoreAnswer::Score(upper_bound(file, plan))
+    ScoreAnswer::Score(upper_bound(file, plan, &positions, &high, &low))
 }
 
 fn refuse(number: u8, place: usize) -> ScoreAnswer

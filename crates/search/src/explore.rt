@@ -22,6 +22,7 @@ ghost use lib.ListN.{length, getD};
 ghost use Rattle.diagram.specs.Table.{tableOf, choiceCount};
 ghost use Rattle.diagram.specs.Plans.{cost};
 ghost use Rattle.diagram.proofs.Checked.{Passed};
+ghost use Rattle.scoring.specs.Passes.{Decoded};
 ghost use Rattle.sweep.specs.Drops.{LargestFailing};
 ghost use Rattle.search.specs.State.{rows, Arrays, Ordered, Arranged, Explored};
 
@@ -94,36 +95,30 @@ const POSITIONS: [u64; 64] = [
 ];
 
 // What is held and counted after the search of a file that has passed every check, from a plan that the checks 21 and 22 let
-// through; `failing` is the largest score that fails the percentage.
+// through; `failing` is the largest score that fails the percentage. The arrays hold the file's records, as `accept` leaves
+// them.
 pub fn explore(
     file: &[u8],
     plan: &[u8],
     budget: u32,
     failing: u64,
+    positions: &[u8; 256],
+    high: &[u8; 256],
+    low: &[u8; 256],
     best: &mut [u8; 20],
     tally: &mut [u64; 3],
 )
     requires passed { ⌜ Passed (now file) ⌝ }
     requires plan { ⌜ (length (now plan) ≡ choiceCount (tableOf (now file) .variables)) × ((i : ℕ) → getD (now plan) i 0 ≤ 2) ⌝ }
     requires failing { ⌜ (failing ≤ 2 ^ 56) × (budget ≤ 20) × ((percent : ℕ) × LargestFailing (tableOf (now file)) percent failing) ⌝ }
+    requires records { ⌜ Decoded (now file) (now positions) (now high) (now low) ⌝ }
     requires sizes { ⌜ (length (now best) ≡ 20) × (length (now tally) ≡ 3) ⌝ }
     ensures { λ _. ⌜ ((percent : ℕ) → LargestFailing (tableOf (now (file .entry))) percent failing → Explored (tableOf (now (file .entry))) percent budget failing (now (plan .entry)) (now (best .exit)) (now (tally .exit))) ⌝ }
 {
     let n = record_count(file);
-    let mut positions = [0u8; 256];
-    let mut high = [0u8; 256];
-    let mut low = [0u8; 256];
     let mut high_arcs = [0u64; 256];
     let mut low_arcs = [0u64; 256];
-    let weight = lay_out(
-        file,
-        n,
-        &mut positions,
-        &mut high,
-        &mut low,
-        &mut high_arcs,
-        &mut low_arcs,
-    );
+    let weight = lay_out(file, n, positions, high, low, &mut high_arcs, &mut low_arcs);
     arrange(
         file,
         plan,
@@ -133,9 +128,9 @@ pub fn explore(
         tally,
         n,
         weight,
-        &positions,
-        &high,
-        &low,
+        positions,
+        high,
+        low,
         &high_arcs,
         &low_arcs,
     )

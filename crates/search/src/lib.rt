@@ -26,7 +26,19 @@ pub fn search(file: &[u8], plan: &[u8], budget: u32, percent: u32, out: &mut [u8
     ensures buffer { λ r. ⌜ now (out .exit) ≡ searchBuffer (now (file .entry)) (now (plan .entry)) budget percent (now (out .entry)) ⌝ }
     ensures visits { λ r. ⌜ visitsOf r + 1 ≤ 2 ^ suc (openCount (now (plan .entry))) ⌝ }
 {
-    let t = match accept(file, plan, budget, percent, out.len()) {
+    let mut positions = [0u8; 256];
+    let mut high = [0u8; 256];
+    let mut low = [0u8; 256];
+    let t = match accept(
+        file,
+        plan,
+        budget,
+        percent,
+        out.len(),
+        &mut positions,
+        &mut high,
+        &mut low,
+    ) {
         RequestAnswer::Accepted(t) => t,
         RequestAnswer::Refused(r) => return SearchAnswer::Refused(r),
     };
@@ -37,6 +49,9 @@ pub fn search(file: &[u8], plan: &[u8], budget: u32, percent: u32, out: &mut [u8
         plan,
         budget,
         largest_failing(percent, t.scale),
+        &positions,
+        &high,
+        &low,
         &mut best,
         &mut tally,
     );

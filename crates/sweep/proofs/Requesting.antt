@@ -21,7 +21,7 @@ use Rattle.diagram.specs.declared.refusal.Refusal.{Refusal}
 use Rattle.reading.specs.declared.answer.Summary.{Summary}
 use Rattle.reading.specs.declared.answer.ReadAnswer.{ReadAnswer}
 use Rattle.reading.specs.Answer.{outcomeOf}
-use Rattle.reading.proofs.Outcomes.{table-read}
+use Rattle.reading.proofs.Outcomes.{numbers, table-as, table-read}
 use Rattle.sweep.specs.declared.answer.RequestAnswer.{RequestAnswer}
 use Rattle.sweep.specs.Answer.{requestOf}
 use Rattle.sweep.specs.Request.{requestOutcome}
@@ -166,13 +166,8 @@ module _ (s p : List ℕ) (budget percent size : ℕ) where
 -- ---------------------------------------------------------------------------
 -- What the answers of `read` and `accept` tell
 
--- The four numbers of a table
-abbrev pub numbers : Summary → Reading
-numbers t = record { variables = t .variables; records = t .records; choices = t .choices; scale = t .scale }
-
 pub table-answered : (s : List ℕ) {r : ReadAnswer} → outcomeOf r ≡ readOutcome s → (t : Summary) → r ≡ ReadAnswer.Table t → answered (numbers t) ≡ answered (reading s)
-unfolding outcomeOf
-table-answered s promise t e = (rw e at promise) ∙ table-read s promise t e
+table-answered s promise t e = sym (table-as promise t e) ∙ table-read s promise t e
 
 module _ (s p : List ℕ) (budget percent size : ℕ) {r : RequestAnswer} (promise : requestOf r ≡ requestOutcome s p budget percent size) where
   pub refused-request : (x : Refusal) → r ≡ RequestAnswer.Refused x → requestOutcome s p budget percent size ≡ refused (x .number) (x .place)

@@ -27,10 +27,22 @@ pub fn sweep(file: &[u8], plan: &[u8], drops: &mut [u64]) -> SweepAnswer
     ensures answer { λ r. ⌜ sweepOf r (now (drops .exit)) ≡ sweepOutcome (now (file .entry)) (now (plan .entry)) (length (now (drops .entry))) ⌝ }
     ensures buffer { λ r. ⌜ now (drops .exit) ≡ sweepBuffer (now (file .entry)) (now (plan .entry)) (now (drops .entry)) ⌝ }
 {
-    if let RequestAnswer::Refused(r) = accept(file, plan, 0, 0, drops.len()) {
+    let mut positions = [0u8; 256];
+    let mut high = [0u8; 256];
+    let mut low = [0u8; 256];
+    if let RequestAnswer::Refused(r) = accept(
+        file,
+        plan,
+        0,
+        0,
+        drops.len(),
+        &mut positions,
+        &mut high,
+        &mut low,
+    ) {
         return SweepAnswer::Refused(r);
     }
-    let swept = two_passes(file, plan);
+    let swept = two_passes(file, plan, &positions, &high, &low);
     let numbers = swept.drops;
     copy(&numbers, drops);
     SweepAnswer::Bound(swept.bound)
@@ -54,11 +66,23 @@ pub fn filter(file: &[u8], plan: &[u8], percent: u32, out: &mut [u8]) -> FilterA
     ensures answer { λ r. ⌜ filterOf r (now (out .exit)) ≡ filterOutcome (now (file .entry)) (now (plan .entry)) percent (length (now (out .entry))) ⌝ }
     ensures buffer { λ r. ⌜ now (out .exit) ≡ filterBuffer (now (file .entry)) (now (plan .entry)) percent (now (out .entry)) ⌝ }
 {
-    let t = match accept(file, plan, 0, percent, out.len()) {
+    let mut positions = [0u8; 256];
+    let mut high = [0u8; 256];
+    let mut low = [0u8; 256];
+    let t = match accept(
+        file,
+        plan,
+        0,
+        percent,
+        out.len(),
+        &mut positions,
+        &mut high,
+        &mut low,
+    ) {
         RequestAnswer::Accepted(t) => t,
         RequestAnswer::Refused(r) => return FilterAnswer::Refused(r),
     };
-    let swept = two_passes(file, plan);
+    let swept = two_passes(file, plan, &positions, &high, &low);
     let failing = largest_failing(percent, t.scale);
     if swept.bound <= failing {
         return FilterAnswer::Refused(Refusal {

@@ -3,17 +3,34 @@ use crate::answer::RequestAnswer;
 use diagram::Refusal;
 use reading::Fault;
 use reading::ReadAnswer;
-use reading::read;
+use reading::read_records;
 use scoring::mark_fault;
 ghost use mathlib.Core.Path.{_≡_};
+ghost use lib.ListN.{length};
+ghost use Rattle.diagram.specs.Table.{Record, variableCount};
+ghost use Rattle.reading.specs.Nodes.{columnOr};
 ghost use Rattle.sweep.specs.Request.{requestOutcome};
 ghost use Rattle.sweep.specs.Answer.{requestOf};
 
-// The checks 11 to 18, 21, 22, 23, 24 and 25, in this order. A service without kits or percent hands in 0 for them.
-pub fn accept(file: &[u8], plan: &[u8], budget: u32, percent: u32, size: usize) -> RequestAnswer
-    ensures { λ r. ⌜ requestOf r ≡ requestOutcome (now (file .entry)) (now (plan .entry)) budget percent size ⌝ }
+// The checks 11 to 18, 21, 22, 23, 24 and 25, in this order. A service without kits or percent hands in 0 for them. The arrays
+// are lent to `read_records`; the lengths are their own, and the services lend local arrays.
+pub fn accept(
+    file: &[u8],
+    plan: &[u8],
+    budget: u32,
+    percent: u32,
+    size: usize,
+    positions: &mut [u8; 256],
+    high: &mut [u8; 256],
+    low: &mut [u8; 256],
+) -> RequestAnswer
+    requires sizes { ⌜ (length (now positions) ≡ 256) × (length (now high) ≡ 256) × (length (now low) ≡ 256) ⌝ }
+    ensures answer { λ r. ⌜ requestOf r ≡ requestOutcome (now (file .entry)) (now (plan .entry)) budget percent size ⌝ }
+    ensures positions { λ _. ⌜ now (positions .exit) ≡ columnOr (now (file .entry)) (variableCount (now (file .entry))) (λ (r : Record). r .position) (now (positions .entry)) ⌝ }
+    ensures high { λ _. ⌜ now (high .exit) ≡ columnOr (now (file .entry)) 0 (λ (r : Record). r .hi) (now (high .entry)) ⌝ }
+    ensures low { λ _. ⌜ now (low .exit) ≡ columnOr (now (file .entry)) 0 (λ (r : Record). r .lo) (now (low .entry)) ⌝ }
 {
-    let t = match read(file) {
+    let t = match read_records(file, positions, high, low) {
         ReadAnswer::Table(t) => t,
         ReadAnswer::Refused(r) => return RequestAnswer::Refused(r),
     };

@@ -18,7 +18,7 @@ ghost use Rattle.diagram.specs.Plans.{upperBound, derivatives};
 ghost use Rattle.diagram.proofs.Checked.{Passed};
 ghost use Rattle.diagram.proofs.Rising.{Monotone};
 ghost use Rattle.scoring.specs.Value.{place, gap};
-ghost use Rattle.scoring.specs.Passes.{over, Marked};
+ghost use Rattle.scoring.specs.Passes.{over, Decoded, Marked};
 ghost use Rattle.sweep.specs.Drops.{derivativeAt};
 
 // The top of a plan and the drops of its choices, by choice number; the places after the last choice are 0.
@@ -33,34 +33,31 @@ pub struct ByPosition {
     pub drops: [u64; 64],
 }
 
-// The top and the drops of a file that has passed every check and a plan that the checks 21 and 22 let through.
-pub fn two_passes(file: &[u8], plan: &[u8]) -> Sweep
+// The top and the drops of a file that has passed every check and a plan that the checks 21 and 22 let through. The arrays hold
+// the file's records, as `accept` leaves them.
+pub fn two_passes(
+    file: &[u8],
+    plan: &[u8],
+    positions: &[u8; 256],
+    high: &[u8; 256],
+    low: &[u8; 256],
+) -> Sweep
     requires passed { ⌜ Passed (now file) ⌝ }
     requires plan { ⌜ (length (now plan) ≡ choiceCount (tableOf (now file) .variables)) × ((i : ℕ) → getD (now plan) i 0 ≤ 2) ⌝ }
+    requires records { ⌜ Decoded (now file) (now positions) (now high) (now low) ⌝ }
     ensures bound { λ r. ⌜ r .bound ≡ upperBound (tableOf (now (file .entry))) (now (plan .entry)) ⌝ }
     ensures drops { λ r. ⌜ r .drops ≡ over (derivatives (tableOf (now (file .entry))) (now (plan .entry))) (replicate 20 0) ⌝ }
 {
     let n = record_count(file);
-    let mut positions = [0u8; 256];
-    let mut high = [0u8; 256];
-    let mut low = [0u8; 256];
     let mut high_arcs = [0u64; 256];
     let mut low_arcs = [0u64; 256];
-    let weight = lay_out(
-        file,
-        n,
-        &mut positions,
-        &mut high,
-        &mut low,
-        &mut high_arcs,
-        &mut low_arcs,
-    );
+    let weight = lay_out(file, n, positions, high, low, &mut high_arcs, &mut low_arcs);
     let marks = marks_by_position(file, plan);
     let swept = up_and_down(
         n,
-        &positions,
-        &high,
-        &low,
+        positions,
+        high,
+        low,
         &high_arcs,
         &low_arcs,
         &marks,
@@ -74,7 +71,7 @@ pub fn two_passes(file: &[u8], plan: &[u8]) -> Sweep
 }
 
 // One pass up gives the values of the nodes, one pass down their path weights; the weight handed in is the root's. The
-// arrays hold a monotone table and a plan, as `lay_out` and `marks_by_position` leave them.
+// arrays hold a monotone table and a plan, as `read_records`, `lay_out` and `marks_by_position` leave them.
 fn up_and_down(
     n: usize,
     positions: &[u8; 256],

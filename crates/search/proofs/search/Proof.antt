@@ -6,10 +6,12 @@ use lib.ListN.{length}
 use borrow.Author.Needs.{needs}
 use Rattle.diagram.specs.Table.{tableOf, scale}
 use Rattle.diagram.specs.Services.{answered}
+use Rattle.reading.proofs.Outcomes.{numbers}
 use Rattle.reading.proofs.Accepted.{passed-scale, passed-choices}
+use Rattle.scoring.proofs.Requests.{decoded-read}
 use Rattle.sweep.specs.Drops.{LargestFailing}
 use Rattle.sweep.specs.Request.{requestOutcome}
-use Rattle.sweep.proofs.Requesting.{Proper, numbers, refused-request, accepted-request, accepted-proper, accepted-scale}
+use Rattle.sweep.proofs.Requesting.{Proper, refused-request, accepted-request, accepted-proper, accepted-scale}
 use Rattle.search.specs.State.{Explored}
 use Rattle.search.proofs.Answering.{failing-fits, search-turned, search-32, held-long, search-found}
 use Rattle.search.proofs.search.Statement.{statement}
@@ -17,29 +19,29 @@ use Rattle.search.proofs.search.Tie as tie
 
 -- what is known of a request that the checks let through
 request-answered : (c : tie.After-known-told) →
-    let a = c .before .before .before .before .before .before .before .args in
+    let a = c .before .before .before .before .before .before .before .before .before .before .args in
     requestOutcome (a .file .now) (a .plan .now) (a .budget) (a .percent) (length (a .out .now)) ≡ answered (numbers (c .before .t .given .0 .0))
-request-answered c = accepted-request _ _ _ _ _ (c .before .before .before .accept .ensures) _ (c .before .t .given .1)
+request-answered c = accepted-request _ _ _ _ _ (c .before .before .before .accept .ensures .0) _ (c .before .t .given .1)
 
 request-proper : (c : tie.After-known-told) →
-    let a = c .before .before .before .before .before .before .before .args in
+    let a = c .before .before .before .before .before .before .before .before .before .before .args in
     Proper (a .file .now) (a .plan .now) (a .budget) (a .percent) (length (a .out .now))
-request-proper c = accepted-proper _ _ _ _ _ (c .before .before .before .accept .ensures) _ (c .before .t .given .1)
+request-proper c = accepted-proper _ _ _ _ _ (c .before .before .before .accept .ensures .0) _ (c .before .t .given .1)
 
-request-scale : (c : tie.After-known-told) → c .before .t .given .0 .0 .scale ≡ scale (tableOf (c .before .before .before .before .before .before .before .args .file .now))
-request-scale c = accepted-scale _ _ _ _ _ (c .before .before .before .accept .ensures) _ (c .before .t .given .1)
+request-scale : (c : tie.After-known-told) → c .before .t .given .0 .0 .scale ≡ scale (tableOf (c .before .before .before .before .before .before .before .before .before .before .args .file .now))
+request-scale c = accepted-scale _ _ _ _ _ (c .before .before .before .accept .ensures .0) _ (c .before .t .given .1)
 
 -- the largest score that fails
 failing : (c : tie.After-largest-failing) →
-    let a = c .before .before .before .before .before .before .before .before .args in
+    let a = c .before .before .before .before .before .before .before .before .before .before .before .args in
     LargestFailing (tableOf (a .file .now)) (a .percent) (c .largest-failing .result)
 failing c = c .largest-failing .ensures _ (request-scale (c .before))
 
 -- what the visits hold and have counted
 explored : (c : tie.After-explore) →
-    let a = c .before .before .before .before .before .before .before .before .before .before .before .args in
-    Explored (tableOf (a .file .now)) (a .percent) (a .budget) (c .before .before .before .largest-failing .result) (a .plan .now) (c .explore .last .1 .1 .1 .1 .0) (c .explore .last .1 .1 .1 .1 .1 .0)
-explored c = c .explore .ensures _ (failing (c .before .before .before))
+    let a = c .before .before .before .before .before .before .before .before .before .before .before .before .before .before .before .before .before .args in
+    Explored (tableOf (a .file .now)) (a .percent) (a .budget) (c .before .before .before .before .before .before .largest-failing .result) (a .plan .now) (c .explore .last .1 .1 .1 .1 .1 .1 .1 .0) (c .explore .last .1 .1 .1 .1 .1 .1 .1 .1 .0)
+explored c = c .explore .ensures _ (failing (c .before .before .before .before .before .before))
 
 accept-requires : tie.Need-accept-requires
 accept-requires c κs = search needs
@@ -52,7 +54,7 @@ enum-known-r c = search needs
 
 returns : tie.Need-returns
 returns c =
-    search-turned _ _ _ _ _ _ (refused-request _ _ _ _ _ (c .before .before .before .accept .ensures) _ (c .before .r .given .1))
+    search-turned _ _ _ _ _ _ (refused-request _ _ _ _ _ (c .before .before .before .accept .ensures .0) _ (c .before .r .given .1))
 
 largest-failing-requires : tie.Need-largest-failing-requires
 largest-failing-requires c κs =
@@ -62,12 +64,12 @@ largest-failing-requires c κs =
 
 explore-requires : tie.Need-explore-requires
 explore-requires c κs =
-    let ok = request-proper (c .before .before .before) in
-    let fails = failing (c .before .before) in (
+    let ok = request-proper (c .before .before .before .before .before .before) in
+    let fails = failing (c .before .before .before .before .before) in (
       ok .passed,
       (
         (ok .long, ok .legal),
-        ((failing-fits _ _ _ fails (ok .percents) (passed-scale (ok .passed)), ok .budgets, (_, fails)), (refl, refl)),
+        ((failing-fits _ _ _ fails (ok .percents) (passed-scale (ok .passed)), ok .budgets, (_, fails)), (decoded-read _ _ _ (ok .read) (c .before .before .before .before .before .before .before .before .before .accept .ensures .1), (refl, refl))),
       ),
     )
 
@@ -76,25 +78,25 @@ array-read-if1 c = search needs
 
 returns-2 : tie.Need-returns-2
 returns-2 c =
-    search-32 _ _ _ _ _ _ (request-answered (c .before .before .before .before .before)) (explored (c .before)) (c .if1 .taken) refl refl
+    search-32 _ _ _ _ _ _ (request-answered (c .before .before .before .before .before .before .before .before)) (explored (c .before)) (c .if1 .taken) refl refl
 
 write-requires : tie.Need-write-requires
 write-requires c κs =
-    let ok = request-proper (c .before .before .before .before .before .before .before) in
-    (held-long _ _ (c .before .before .before .before .before .before .before .before .before .before .before .before .before .before .args .out .now) _ _ _ (request-answered (c .before .before .before .before .before .before .before)) (explored (c .before .before .before)) (c .before .before .if1 .left), omega (arith, ok .sized, passed-choices (ok .passed)))
+    let ok = request-proper (c .before .before .before .before .before .before .before .before .before .before) in
+    (held-long _ _ (c .before .before .before .before .before .before .before .before .before .before .before .before .before .before .before .before .before .before .before .before .args .out .now) _ _ _ (request-answered (c .before .before .before .before .before .before .before .before .before .before)) (explored (c .before .before .before)) (c .before .before .if1 .left), omega (arith, ok .sized, passed-choices (ok .passed)))
 
-array-read-t15 : tie.Need-array-read-t15
-array-read-t15 c = search needs
+array-read-t21 : tie.Need-array-read-t21
+array-read-t21 c = search needs
 
-array-read-t29 : tie.Need-array-read-t29
-array-read-t29 c = search needs
+array-read-t38 : tie.Need-array-read-t38
+array-read-t38 c = search needs
 
 same-length : tie.Need-same-length
 same-length c = search needs
 
 returns-3 : tie.Need-returns-3
 returns-3 c =
-    search-found _ _ _ _ _ _ (request-answered (c .before .before .before .before .before .before .before .before .before .before)) (explored (c .before .before .before .before .before .before)) (c .before .before .before .before .before .if1 .left) (c .before .before .write .ensures) refl refl
+    search-found _ _ _ _ _ _ (request-answered (c .before .before .before .before .before .before .before .before .before .before .before .before .before)) (explored (c .before .before .before .before .before .before)) (c .before .before .before .before .before .if1 .left) (c .before .before .write .ensures) refl refl
 
 pub search-spec : {M : Type 1} → statement M
 search-spec =
@@ -109,7 +111,7 @@ search-spec =
     array-read-if1
     returns-2
     write-requires
-    array-read-t15
-    array-read-t29
+    array-read-t21
+    array-read-t38
     same-length
     returns-3)

@@ -9,39 +9,41 @@ use Rattle.diagram.specs.Table.{tableOf, scale}
 use Rattle.diagram.specs.Plans.{completions, upperBound, passes, noneOf, passing}
 use Rattle.diagram.specs.Services.{answered}
 use Rattle.reading.proofs.Accepted.{passed-formed, passed-scale, passed-monotone}
+use Rattle.reading.proofs.Outcomes.{numbers}
+use Rattle.scoring.proofs.Requests.{decoded-read}
 use Rattle.sweep.specs.Answer.{filterOf}
 use Rattle.sweep.specs.Drops.{LargestFailing, Swept}
 use Rattle.sweep.specs.Request.{requestOutcome}
 use Rattle.sweep.proofs.ForcedLines.{none-passes}
-use Rattle.sweep.proofs.Requesting.{Proper, numbers, refused-request, accepted-request, accepted-proper, accepted-scale}
+use Rattle.sweep.proofs.Requesting.{Proper, refused-request, accepted-request, accepted-proper, accepted-scale}
 use Rattle.sweep.proofs.Serving.{request-swept, filter-turned, filter-31, filter-done}
 use borrow.Author.Needs.{needs}
 use Rattle.sweep.proofs.filter.Statement.{statement}
 use Rattle.sweep.proofs.filter.Tie as tie
 
 -- what is known of a request that the checks let through
-request-answered : (c : tie.After-known-told) → requestOutcome (c .before .before .before .before .before .before .before .args .file .now) (c .before .before .before .before .before .before .before .args .plan .now) 0 (c .before .before .before .before .before .before .before .args .percent) (length (c .before .before .before .before .before .before .before .args .out .now)) ≡ answered (numbers (c .before .t .given .0 .0))
-request-answered c = accepted-request _ _ _ _ _ (c .before .before .before .accept .ensures) _ (c .before .t .given .1)
+request-answered : (c : tie.After-known-told) → requestOutcome (c .before .before .before .before .before .before .before .before .before .before .args .file .now) (c .before .before .before .before .before .before .before .before .before .before .args .plan .now) 0 (c .before .before .before .before .before .before .before .before .before .before .args .percent) (length (c .before .before .before .before .before .before .before .before .before .before .args .out .now)) ≡ answered (numbers (c .before .t .given .0 .0))
+request-answered c = accepted-request _ _ _ _ _ (c .before .before .before .accept .ensures .0) _ (c .before .t .given .1)
 
-request-proper : (c : tie.After-known-told) → Proper (c .before .before .before .before .before .before .before .args .file .now) (c .before .before .before .before .before .before .before .args .plan .now) 0 (c .before .before .before .before .before .before .before .args .percent) (length (c .before .before .before .before .before .before .before .args .out .now))
-request-proper c = accepted-proper _ _ _ _ _ (c .before .before .before .accept .ensures) _ (c .before .t .given .1)
+request-proper : (c : tie.After-known-told) → Proper (c .before .before .before .before .before .before .before .before .before .before .args .file .now) (c .before .before .before .before .before .before .before .before .before .before .args .plan .now) 0 (c .before .before .before .before .before .before .before .before .before .before .args .percent) (length (c .before .before .before .before .before .before .before .before .before .before .args .out .now))
+request-proper c = accepted-proper _ _ _ _ _ (c .before .before .before .accept .ensures .0) _ (c .before .t .given .1)
 
-request-scale : (c : tie.After-known-told) → c .before .t .given .0 .0 .scale ≡ scale (tableOf (c .before .before .before .before .before .before .before .args .file .now))
-request-scale c = accepted-scale _ _ _ _ _ (c .before .before .before .accept .ensures) _ (c .before .t .given .1)
+request-scale : (c : tie.After-known-told) → c .before .t .given .0 .0 .scale ≡ scale (tableOf (c .before .before .before .before .before .before .before .before .before .before .args .file .now))
+request-scale c = accepted-scale _ _ _ _ _ (c .before .before .before .accept .ensures .0) _ (c .before .t .given .1)
 
 -- no completion passes exactly where the top does not
-none-top : (c : tie.After-known-told) → let t = tableOf (c .before .before .before .before .before .before .before .args .file .now) in noneOf (passing t (c .before .before .before .before .before .before .before .args .percent)) (completions (c .before .before .before .before .before .before .before .args .plan .now)) ≡ not (passes t (c .before .before .before .before .before .before .before .args .percent) (upperBound t (c .before .before .before .before .before .before .before .args .plan .now)))
+none-top : (c : tie.After-known-told) → let t = tableOf (c .before .before .before .before .before .before .before .before .before .before .args .file .now) in noneOf (passing t (c .before .before .before .before .before .before .before .before .before .before .args .percent)) (completions (c .before .before .before .before .before .before .before .before .before .before .args .plan .now)) ≡ not (passes t (c .before .before .before .before .before .before .before .before .before .before .args .percent) (upperBound t (c .before .before .before .before .before .before .before .before .before .before .args .plan .now)))
 none-top c =
     let ok = request-proper c in
     none-passes _ (passed-formed (ok .passed)) (passed-monotone (ok .passed)) _ _
 
 -- the largest score that fails
-failing : (c : tie.After-largest-failing) → LargestFailing (tableOf (c .before .before .before .before .before .before .before .before .before .args .file .now)) (c .before .before .before .before .before .before .before .before .before .args .percent) (c .largest-failing .result)
-failing c = c .largest-failing .ensures _ (request-scale (c .before .before))
+failing : (c : tie.After-largest-failing) → LargestFailing (tableOf (c .before .before .before .before .before .before .before .before .before .before .before .before .before .before .before .args .file .now)) (c .before .before .before .before .before .before .before .before .before .before .before .before .before .before .before .args .percent) (c .largest-failing .result)
+failing c = c .largest-failing .ensures _ (request-scale (c .before .before .before .before .before))
 
 -- the top and the drops, as `force` wants them
-swept : (c : tie.After-largest-failing) → Swept (tableOf (c .before .before .before .before .before .before .before .before .before .args .file .now)) (c .before .before .before .before .before .before .before .before .before .args .plan .now) (c .before .before .before .before .before .before .before .before .before .args .percent) (c .largest-failing .result) (c .before .two-passes .result .bound) (c .before .two-passes .result .drops)
-swept c = request-swept (request-proper (c .before .before)) (failing c) (c .before .two-passes .ensures .0) (c .before .two-passes .ensures .1)
+swept : (c : tie.After-largest-failing) → Swept (tableOf (c .before .before .before .before .before .before .before .before .before .before .before .before .before .before .before .args .file .now)) (c .before .before .before .before .before .before .before .before .before .before .before .before .before .before .before .args .plan .now) (c .before .before .before .before .before .before .before .before .before .before .before .before .before .before .before .args .percent) (c .largest-failing .result) (c .before .two-passes .result .bound) (c .before .two-passes .result .drops)
+swept c = request-swept (request-proper (c .before .before .before .before .before)) (failing c) (c .before .two-passes .ensures .0) (c .before .two-passes .ensures .1)
 
 accept-requires : tie.Need-accept-requires
 accept-requires c κs = search needs
@@ -54,29 +56,29 @@ enum-known-r c = search needs
 
 returns : tie.Need-returns
 unfolding filterOf
-returns c = filter-turned _ _ _ _ _ _ (refused-request _ _ _ _ _ (c .before .before .before .accept .ensures) _ (c .before .r .given .1))
+returns c = filter-turned _ _ _ _ _ _ (refused-request _ _ _ _ _ (c .before .before .before .accept .ensures .0) _ (c .before .r .given .1))
 
 two-passes-requires : tie.Need-two-passes-requires
 two-passes-requires c κs =
-    let ok = request-proper c in
-    (ok .passed, (ok .long, ok .legal))
+    let ok = request-proper (c .before .before .before) in
+    (ok .passed, ((ok .long, ok .legal), decoded-read _ _ _ (ok .read) (c .before .before .before .before .before .before .accept .ensures .1)))
 
 largest-failing-requires : tie.Need-largest-failing-requires
 largest-failing-requires c κs =
-    let ok = request-proper (c .before) in
-    let scales = request-scale (c .before) in
+    let ok = request-proper (c .before .before .before .before) in
+    let scales = request-scale (c .before .before .before .before) in
     (ok .percents, omega (arith, scales, passed-scale (ok .passed)))
 
 returns-2 : tie.Need-returns-2
 unfolding filterOf
 returns-2 c =
-    let at = c .before .before .before .before in
+    let at = c .before .before .before .before .before .before .before in
     filter-31 _ _ _ _ _ (request-answered at) (none-top at) (c .before .before .before .two-passes .ensures .0)
     (failing (c .before .before) _ ∙ le-ltb (c .before .before .largest-failing .result) _ (omega (arith, c .if1 .taken)))
 
 force-requires : tie.Need-force-requires
 force-requires c κs =
-    let ok = request-proper (c .before .before .before .before .before .before .before) in
+    let ok = request-proper (c .before .before .before .before .before .before .before .before .before .before) in
     ((_, _, swept (c .before .before .before .before .before)), ok .sized ∙ sym (ok .long))
 
 same-length : tie.Need-same-length
@@ -85,7 +87,7 @@ same-length c = search needs
 returns-3 : tie.Need-returns-3
 unfolding filterOf
 returns-3 c =
-    let at = c .before .before .before .before .before .before .before .before .before .before in
+    let at = c .before .before .before .before .before .before .before .before .before .before .before .before .before in
     let forced = c .before .before .force .ensures _ _ (swept (c .before .before .before .before .before .before .before .before)) in
     filter-done _ _ _ _ _ (request-answered at) (none-top at) (c .before .before .before .before .before .before .before .before .before .two-passes .ensures .0)
     (failing (c .before .before .before .before .before .before .before .before) _ ∙ lt-ltb (c .before .before .before .before .before .before .before .before .largest-failing .result) _ (omega (arith, c .before .before .before .before .before .before .if1 .left)))

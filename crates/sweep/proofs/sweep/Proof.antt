@@ -2,6 +2,7 @@
 use native.Mathlib.Omega.{arith}
 use lib.ListN.{length}
 use Rattle.reading.proofs.Accepted.{passed-choices}
+use Rattle.scoring.proofs.Requests.{decoded-read}
 use Rattle.sweep.specs.Answer.{sweepOf}
 use Rattle.sweep.proofs.Requesting.{Proper, refused-request, accepted-request, accepted-proper}
 use Rattle.sweep.proofs.Serving.{sweep-turned, sweep-done}
@@ -10,8 +11,8 @@ use Rattle.sweep.proofs.sweep.Statement.{statement}
 use Rattle.sweep.proofs.sweep.Tie as tie
 
 -- the request that the checks let through
-request-proper : (c : tie.After-enum-told) → Proper (c .before .before .before .before .before .before .args .file .now) (c .before .before .before .before .before .before .args .plan .now) 0 0 (length (c .before .before .before .before .before .before .args .drops .now))
-request-proper c = accepted-proper _ _ _ _ _ (c .before .before .accept .ensures) _ (c .enum-told .given .1)
+request-proper : (c : tie.After-enum-told) → Proper (c .before .before .before .before .before .before .before .before .before .args .file .now) (c .before .before .before .before .before .before .before .before .before .args .plan .now) 0 0 (length (c .before .before .before .before .before .before .before .before .before .args .drops .now))
+request-proper c = accepted-proper _ _ _ _ _ (c .before .before .accept .ensures .0) _ (c .enum-told .given .1)
 
 accept-requires : tie.Need-accept-requires
 accept-requires c κs = search needs
@@ -21,19 +22,19 @@ enum-known-r c = search needs
 
 returns : tie.Need-returns
 unfolding sweepOf
-returns c = sweep-turned _ _ _ _ _ (refused-request _ _ _ _ _ (c .before .before .before .accept .ensures) _ (c .before .r .given .1))
+returns c = sweep-turned _ _ _ _ _ (refused-request _ _ _ _ _ (c .before .before .before .accept .ensures .0) _ (c .before .r .given .1))
 
 enum-told : tie.Need-enum-told
 enum-told c = search needs
 
 two-passes-requires : tie.Need-two-passes-requires
 two-passes-requires c κs =
-    let ok = request-proper c in
-    (ok .passed, (ok .long, ok .legal))
+    let ok = request-proper (c .before .before .before) in
+    (ok .passed, ((ok .long, ok .legal), decoded-read _ _ _ (ok .read) (c .before .before .before .before .before .accept .ensures .1)))
 
 copy-requires : tie.Need-copy-requires
 copy-requires c κs =
-    let ok = request-proper (c .before .before .before .before) in
+    let ok = request-proper (c .before .before .before .before .before .before .before) in
     (search needs, omega (arith, passed-choices (ok .passed)))
 
 same-length : tie.Need-same-length
@@ -42,7 +43,7 @@ same-length c = search needs
 returns-2 : tie.Need-returns-2
 unfolding sweepOf
 returns-2 c =
-    sweep-done _ _ _ _ (accepted-request _ _ _ _ _ (c .before .before .before .before .before .before .before .before .before .accept .ensures) _ (c .before .before .before .before .before .before .before .enum-told .given .1))
+    sweep-done _ _ _ _ (accepted-request _ _ _ _ _ (c .before .before .before .before .before .before .before .before .before .before .before .before .accept .ensures .0) _ (c .before .before .before .before .before .before .before .before .before .before .enum-told .given .1))
     (c .before .before .before .before .before .before .two-passes .ensures .0)
     (c .before .before .before .before .before .before .two-passes .ensures .1)
     (c .before .before .copy .ensures)

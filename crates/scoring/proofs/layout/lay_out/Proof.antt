@@ -6,44 +6,38 @@ use borrow.Author.Needs.{needs}
 use Rattle.scoring.proofs.layout.lay_out.Statement.{statement}
 use Rattle.scoring.proofs.layout.lay_out.Tie as tie
 
-decode-requires : tie.Need-decode-requires
-decode-requires c κs = search needs
-
 products-requires : tie.Need-products-requires
 products-requires c κs = search needs
 
 arc-weights-requires : tie.Need-arc-weights-requires
 arc-weights-requires c κs =
-    let start = c .before .before .before .before .before .before .before .before .before .before .before .before in
-    let decoded = c .before .before .before .before .before .before .before .decode .ensures in
-    let sizes = start .pre .1 in
-    (start .pre .0 .0, ((record { positions = decoded .0; high = decoded .1 .0; low = decoded .1 .1 }, c .before .before .before .before .before .before .products .ensures), (start .pre .0 .1, sizes .3, sizes .4)))
+    let pre = c .before .before .before .before .before .pre in
+    (pre .0 .0, ((pre .1 .0, c .before .before .before .products .ensures), (pre .0 .1, pre .1 .1 .0, pre .1 .1 .1)))
 
 sub-of-record : tie.Need-sub-of-record
-sub-of-record c = let start = c .before .before .before .before .before .before .before .before .before .before .before .before .before .before .before in records-few (start .pre .0 .0) _ (start .pre .0 .1) .0
+sub-of-record c = let pre = c .before .before .before .before .before .before .before .pre in records-few (pre .0 .0) _ (pre .0 .1) .0
 
 of-record-requires : tie.Need-of-record-requires
-of-record-requires c κs = let start = c .before .before .before .before .before .before .before .before .before .before .before .before .before .before .before in records-few (start .pre .0 .0) _ (start .pre .0 .1) .1
+of-record-requires c κs = let pre = c .before .before .before .before .before .before .before .pre in records-few (pre .0 .0) _ (pre .0 .1) .1
 
 position-of-requires : tie.Need-position-of-requires
 position-of-requires c κs = search needs
 
 root-weight-requires : tie.Need-root-weight-requires
 root-weight-requires c κs =
-    let start = c .before .before .before .before .before .before .before .before .before .before .before .before .before .before .before .before .before in
-    root-within (start .pre .0 .0) _ (start .pre .0 .1) (c .before .before .before .before .before .before .before .before .before .before .before .before .decode .ensures .0) (c .before .before .before .before .before .before .before .before .before .before .before .products .ensures) (c .before .of-record .ensures) (c .position-of .ensures)
+    let pre = c .before .before .before .before .before .before .before .before .before .pre in
+    root-within (pre .0 .0) _ (pre .0 .1) (pre .1 .0 .positions) (c .before .before .before .before .before .before .before .products .ensures) (c .before .of-record .ensures) (c .position-of .ensures)
 
 returns : tie.Need-returns
 returns c =
-    let start = c .before .before .before .before .before .before .before .before .before .before .before .before .before .before .before .before .before .before in
-    let decoded = c .before .before .before .before .before .before .before .before .before .before .before .before .before .decode .ensures in
-    (record { positions = decoded .0; high = decoded .1 .0; low = decoded .1 .1 }, (c .before .before .before .before .before .arc-weights .ensures .0, (c .before .before .before .before .before .arc-weights .ensures .1, root-weighs (start .pre .0 .0) _ (start .pre .0 .1) (decoded .0) (c .before .before .before .before .before .before .before .before .before .before .before .before .products .ensures) (c .before .before .of-record .ensures) (c .before .position-of .ensures) (c .root-weight .ensures))))
+    let pre = c .before .before .before .before .before .before .before .before .before .before .pre in
+    let weighed = c .before .before .before .before .arc-weights .ensures in
+    (weighed .0, (weighed .1, root-weighs (pre .0 .0) _ (pre .0 .1) (pre .1 .0 .positions) (c .before .before .before .before .before .before .before .before .products .ensures) (c .before .before .of-record .ensures) (c .before .position-of .ensures) (c .root-weight .ensures)))
 
 pub lay-out-spec : {M : Type 1} → statement M
 lay-out-spec =
     tie.close
     (tie.spec
-    decode-requires
     products-requires
     arc-weights-requires
     sub-of-record

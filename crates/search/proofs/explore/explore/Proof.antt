@@ -15,25 +15,27 @@ record-count-requires : tie.Need-record-count-requires
 record-count-requires c κs = search needs
 
 lay-out-requires : tie.Need-lay-out-requires
-lay-out-requires c κs = ((c .before .before .before .before .before .before .before .before .pre .0, size (c .before .before .before .before .before)), (refl, refl, refl, refl, refl))
+lay-out-requires c κs =
+    let pre = c .before .before .before .before .before .pre in
+    ((pre .0, size (c .before .before)), (pre .1 .1 .1 .0, (refl, refl)))
 
 arrange-requires : tie.Need-arrange-requires
 arrange-requires c κs =
-    let pre = c .before .before .before .before .before .before .before .before .before .before .before .before .before .before .before .before .pre in
-    let laid = c .before .before .before .before .before .before .before .lay-out .ensures in (
+    let pre = c .before .before .before .before .before .before .before .before .before .before .pre in
+    let laid = c .before .before .before .before .lay-out .ensures in (
       pre .0,
       (
         pre .1 .0,
         (
           pre .1 .1 .0,
           (
-            pre .1 .1 .1,
+            pre .1 .1 .1 .1,
             record {
-              size = size (c .before .before .before .before .before .before .before .before .before .before .before .before .before);
-              weighs = laid .1 .1 .1;
-              decoded = laid .0;
-              high-arcs = laid .1 .0;
-              low-arcs = laid .1 .1 .0;
+              size = size (c .before .before .before .before .before .before .before);
+              weighs = laid .1 .1;
+              decoded = pre .1 .1 .1 .0;
+              high-arcs = laid .0;
+              low-arcs = laid .1 .0;
             },
           ),
         ),

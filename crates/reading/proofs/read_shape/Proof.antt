@@ -1,23 +1,23 @@
--- `read` meets its contract. At each place of its code the checks before have passed, so that reading goes on as the rest of the checks says; a check
+-- `read_shape` meets its contract. At each place of its code the checks before have passed, so that reading goes on as the rest of the checks says; a check
 -- that finds a place stops it there. Assumes nothing.
 use Prim.Native.Nat.{ℕ}
 use mathlib.Core.Path.{_≡_, sym, _∙_}
 use mathlib.Core.Option.{none}
 use mathlib.Core.List.{List}
-use lib.ListN.{drop}
-use Rattle.diagram.specs.Checks.{Check, tableChecks, lengthFault, headingFault, countFault, variableFault, choiceFault, scaleFault, recordFault, monotoneFault}
-use Rattle.diagram.specs.Services.{checked, readOutcome}
-use Rattle.reading.specs.Answer.{outcomeOf}
+use lib.ListN.{take, drop}
+use Rattle.diagram.specs.Checks.{Check, tableChecks, lengthFault, headingFault, countFault, variableFault, choiceFault, scaleFault, recordFault}
+use Rattle.diagram.specs.Services.{checked}
+use Rattle.reading.specs.Answer.{outcomeOf, shapeOutcome}
 use Rattle.reading.proofs.Outcomes.{fault-none, fault-some, bounded-none, bounded-some, summary-is, readFrom, goes-on, stops}
 use borrow.Author.Needs.{needs}
-use Rattle.reading.proofs.read.Statement.{statement}
-use Rattle.reading.proofs.read.Tie as tie
+use Rattle.reading.proofs.read_shape.Statement.{statement}
+use Rattle.reading.proofs.read_shape.Tie as tie
 
 -- ---------------------------------------------------------------------------
 -- The checks that the file has passed at a place, and what is left of reading there
 
 abbrev rest : ℕ → List Check
-rest j = drop j tableChecks
+rest j = drop j (take 7 tableChecks)
 
 abbrev file-11 : tie.After-enum-told → List ℕ
 file-11 c = c .before .before .before .before .args .file .now
@@ -25,8 +25,8 @@ file-11 c = c .before .before .before .before .args .file .now
 none-11 : (c : tie.After-enum-told) → lengthFault (file-11 c) ≡ none
 none-11 c = fault-none _ (c .before .before .length-fault .ensures) (c .enum-told .given .1)
 
-past-11 : (c : tie.After-enum-told) → readOutcome (file-11 c) ≡ readFrom (rest 1) (file-11 c)
-unfolding readOutcome tableChecks
+past-11 : (c : tie.After-enum-told) → shapeOutcome (file-11 c) ≡ readFrom (rest 1) (file-11 c)
+unfolding shapeOutcome tableChecks
 past-11 c = goes-on _ _ (file-11 c) (none-11 c)
 
 abbrev file-12 : tie.After-enum-told2 → List ℕ
@@ -35,8 +35,8 @@ file-12 c = file-11 (c .before .before .before)
 none-12 : (c : tie.After-enum-told2) → headingFault (file-12 c) ≡ none
 none-12 c = search (fault-none, c .enum-told2 .given .1)
 
-past-12 : (c : tie.After-enum-told2) → readOutcome (file-12 c) ≡ readFrom (rest 2) (file-12 c)
-unfolding readOutcome tableChecks
+past-12 : (c : tie.After-enum-told2) → shapeOutcome (file-12 c) ≡ readFrom (rest 2) (file-12 c)
+unfolding shapeOutcome tableChecks
 past-12 c = past-11 (c .before .before .before) ∙ goes-on _ _ (file-12 c) (none-12 c)
 
 abbrev file-13 : tie.After-enum-told3 → List ℕ
@@ -45,8 +45,8 @@ file-13 c = file-12 (c .before .before .before)
 none-13 : (c : tie.After-enum-told3) → countFault (file-13 c) ≡ none
 none-13 c = search (fault-none, c .enum-told3 .given .1)
 
-past-13 : (c : tie.After-enum-told3) → readOutcome (file-13 c) ≡ readFrom (rest 3) (file-13 c)
-unfolding readOutcome tableChecks
+past-13 : (c : tie.After-enum-told3) → shapeOutcome (file-13 c) ≡ readFrom (rest 3) (file-13 c)
+unfolding shapeOutcome tableChecks
 past-13 c = past-12 (c .before .before .before) ∙ goes-on _ _ (file-13 c) (none-13 c)
 
 abbrev file-14 : tie.After-enum-told4 → List ℕ
@@ -55,8 +55,8 @@ file-14 c = file-13 (c .before .before .before)
 none-14 : (c : tie.After-enum-told4) → variableFault (file-14 c) ≡ none
 none-14 c = fault-none _ (c .before .before .variable-fault .ensures) (c .enum-told4 .given .1)
 
-past-14 : (c : tie.After-enum-told4) → readOutcome (file-14 c) ≡ readFrom (rest 4) (file-14 c)
-unfolding readOutcome tableChecks
+past-14 : (c : tie.After-enum-told4) → shapeOutcome (file-14 c) ≡ readFrom (rest 4) (file-14 c)
+unfolding shapeOutcome tableChecks
 past-14 c = past-13 (c .before .before .before) ∙ goes-on _ _ (file-14 c) (none-14 c)
 
 abbrev file-15 : tie.After-known-told5 → List ℕ
@@ -65,8 +65,8 @@ file-15 c = file-14 (c .before .before .before .before)
 none-15 : (c : tie.After-known-told5) → choiceFault (file-15 c) ≡ none
 none-15 c = bounded-none _ _ _ (c .before .before .before .choices .ensures) (c .before .choices2 .given .1) .0
 
-past-15 : (c : tie.After-known-told5) → readOutcome (file-15 c) ≡ readFrom (rest 5) (file-15 c)
-unfolding readOutcome tableChecks
+past-15 : (c : tie.After-known-told5) → shapeOutcome (file-15 c) ≡ readFrom (rest 5) (file-15 c)
+unfolding shapeOutcome tableChecks
 past-15 c = past-14 (c .before .before .before .before) ∙ goes-on _ _ (file-15 c) (none-15 c)
 
 abbrev file-16 : tie.After-known-told7 → List ℕ
@@ -75,8 +75,8 @@ file-16 c = file-15 (c .before .before .before .before)
 none-16 : (c : tie.After-known-told7) → scaleFault (file-16 c) ≡ none
 none-16 c = bounded-none _ _ _ (c .before .before .before .scale .ensures) (c .before .scale2 .given .1) .0
 
-past-16 : (c : tie.After-known-told7) → readOutcome (file-16 c) ≡ readFrom (rest 6) (file-16 c)
-unfolding readOutcome tableChecks
+past-16 : (c : tie.After-known-told7) → shapeOutcome (file-16 c) ≡ readFrom (rest 6) (file-16 c)
+unfolding shapeOutcome tableChecks
 past-16 c = past-15 (c .before .before .before .before) ∙ goes-on _ _ (file-16 c) (none-16 c)
 
 abbrev file-17 : tie.After-enum-told5 → List ℕ
@@ -85,19 +85,9 @@ file-17 c = file-16 (c .before .before .before)
 none-17 : (c : tie.After-enum-told5) → recordFault (file-17 c) ≡ none
 none-17 c = fault-none _ (c .before .before .record-fault .ensures) (c .enum-told5 .given .1)
 
-past-17 : (c : tie.After-enum-told5) → readOutcome (file-17 c) ≡ readFrom (rest 7) (file-17 c)
-unfolding readOutcome tableChecks
+past-17 : (c : tie.After-enum-told5) → shapeOutcome (file-17 c) ≡ readFrom (rest 7) (file-17 c)
+unfolding shapeOutcome tableChecks
 past-17 c = past-16 (c .before .before .before) ∙ goes-on _ _ (file-17 c) (none-17 c)
-
-abbrev file-18 : tie.After-enum-told6 → List ℕ
-file-18 c = file-17 (c .before .before .before)
-
-none-18 : (c : tie.After-enum-told6) → monotoneFault (file-18 c) ≡ none
-none-18 c = fault-none _ (c .before .before .monotone-fault .ensures) (c .enum-told6 .given .1)
-
-past-18 : (c : tie.After-enum-told6) → readOutcome (file-18 c) ≡ readFrom (rest 8) (file-18 c)
-unfolding readOutcome tableChecks
-past-18 c = past-17 (c .before .before .before) ∙ goes-on _ _ (file-18 c) (none-18 c)
 
 -- ---------------------------------------------------------------------------
 -- The needs
@@ -112,7 +102,7 @@ refuse-requires : tie.Need-refuse-requires
 refuse-requires c κs = search needs
 
 returns : tie.Need-returns
-unfolding outcomeOf readOutcome tableChecks
+unfolding outcomeOf shapeOutcome tableChecks
 returns c = rw (c .refuse .ensures) (stops _ (rest 1) (c .before .before .before .before .before .before .args .file .now) _ (fault-some _ _ (c .before .before .before .before .length-fault .ensures) (c .before .before .place .given .1)))
 
 enum-told : tie.Need-enum-told
@@ -128,7 +118,7 @@ refuse-requires-2 : tie.Need-refuse-requires-2
 refuse-requires-2 c κs = search needs
 
 returns-2 : tie.Need-returns-2
-unfolding outcomeOf readOutcome tableChecks
+unfolding outcomeOf shapeOutcome tableChecks
 returns-2 c = rw (c .refuse2 .ensures) (stops _ (rest 2) (file-11 (c .before .before .before .before .before)) _ (fault-some _ _ (c .before .before .before .before .heading-fault .ensures) (c .before .before .place2 .given .1)) ∙ sym (past-11 (c .before .before .before .before .before)))
 
 enum-told-2 : tie.Need-enum-told-2
@@ -144,7 +134,7 @@ refuse-requires-3 : tie.Need-refuse-requires-3
 refuse-requires-3 c κs = search needs
 
 returns-3 : tie.Need-returns-3
-unfolding outcomeOf readOutcome tableChecks
+unfolding outcomeOf shapeOutcome tableChecks
 returns-3 c = rw (c .refuse3 .ensures) (stops _ (rest 3) (file-12 (c .before .before .before .before .before)) _ (fault-some _ _ (c .before .before .before .before .count-fault .ensures) (c .before .before .place3 .given .1)) ∙ sym (past-12 (c .before .before .before .before .before)))
 
 enum-told-3 : tie.Need-enum-told-3
@@ -160,7 +150,7 @@ refuse-requires-4 : tie.Need-refuse-requires-4
 refuse-requires-4 c κs = search needs
 
 returns-4 : tie.Need-returns-4
-unfolding outcomeOf readOutcome tableChecks
+unfolding outcomeOf shapeOutcome tableChecks
 returns-4 c = rw (c .refuse4 .ensures) (stops _ (rest 4) (file-13 (c .before .before .before .before .before)) _ (fault-some _ _ (c .before .before .before .before .variable-fault .ensures) (c .before .before .place4 .given .1)) ∙ sym (past-13 (c .before .before .before .before .before)))
 
 enum-told-4 : tie.Need-enum-told-4
@@ -179,7 +169,7 @@ refuse-requires-5 : tie.Need-refuse-requires-5
 refuse-requires-5 c κs = search needs
 
 returns-5 : tie.Need-returns-5
-unfolding outcomeOf readOutcome tableChecks
+unfolding outcomeOf shapeOutcome tableChecks
 returns-5 c = rw (c .refuse5 .ensures) (stops _ (rest 5) (file-14 (c .before .before .before .before .before)) _ (bounded-some _ _ _ (c .before .before .before .before .choices .ensures) (c .before .before .place5 .given .1)) ∙ sym (past-14 (c .before .before .before .before .before)))
 
 scale-requires : tie.Need-scale-requires
@@ -195,7 +185,7 @@ refuse-requires-6 : tie.Need-refuse-requires-6
 refuse-requires-6 c κs = search needs
 
 returns-6 : tie.Need-returns-6
-unfolding outcomeOf readOutcome tableChecks
+unfolding outcomeOf shapeOutcome tableChecks
 returns-6 c = rw (c .refuse6 .ensures) (stops _ (rest 6) (file-15 (c .before .before .before .before .before)) _ (bounded-some _ _ _ (c .before .before .before .before .scale .ensures) (c .before .before .place6 .given .1)) ∙ sym (past-15 (c .before .before .before .before .before)))
 
 record-fault-requires : tie.Need-record-fault-requires
@@ -208,51 +198,34 @@ refuse-requires-7 : tie.Need-refuse-requires-7
 refuse-requires-7 c κs = search needs
 
 returns-7 : tie.Need-returns-7
-unfolding outcomeOf readOutcome tableChecks
+unfolding outcomeOf shapeOutcome tableChecks
 returns-7 c = rw (c .refuse7 .ensures) (stops _ (rest 7) (file-16 (c .before .before .before .before .before)) _ (fault-some _ _ (c .before .before .before .before .record-fault .ensures) (c .before .before .place7 .given .1)) ∙ sym (past-16 (c .before .before .before .before .before)))
 
 enum-told-5 : tie.Need-enum-told-5
 enum-told-5 c = search needs
 
-monotone-fault-requires : tie.Need-monotone-fault-requires
-monotone-fault-requires c κs = record { heading = none-12 (c .before .before .before .before .before .before .before .before .before .before .before .before .before .before .before .before .before); count = none-13 (c .before .before .before .before .before .before .before .before .before .before .before .before .before .before); records = none-17 c }
-
-enum-known-place-8 : tie.Need-enum-known-place-8
-enum-known-place-8 c = search needs
-
-refuse-requires-8 : tie.Need-refuse-requires-8
-refuse-requires-8 c κs = search needs
-
-returns-8 : tie.Need-returns-8
-unfolding outcomeOf readOutcome tableChecks
-returns-8 c = rw (c .refuse8 .ensures) (stops _ (rest 8) (file-17 (c .before .before .before .before .before)) _ (fault-some _ _ (c .before .before .before .before .monotone-fault .ensures) (c .before .before .place8 .given .1)) ∙ sym (past-17 (c .before .before .before .before .before)))
-
-enum-told-6 : tie.Need-enum-told-6
-enum-told-6 c = search needs
-
 variable-count-requires : tie.Need-variable-count-requires
 variable-count-requires c κs = search needs
 
-cast-t25 : tie.Need-cast-t25
-cast-t25 c = search needs
+cast-t23 : tie.Need-cast-t23
+cast-t23 c = search needs
 
 record-count-requires : tie.Need-record-count-requires
 record-count-requires c κs = search needs
 
-returns-9 : tie.Need-returns-9
+returns-8 : tie.Need-returns-8
 unfolding outcomeOf checked tableChecks
-returns-9 c =
-    let p18 = c .before .before in
-    let p17 = p18 .before .before .before in
+returns-8 c =
+    let p17 = c .before .before in
     let p16 = p17 .before .before .before in
     let p15 = p16 .before .before .before .before in
-    let s = file-18 p18 in
+    let s = file-17 p17 in
     let choices = bounded-none _ _ _ (p15 .before .before .before .choices .ensures) (p15 .before .choices2 .given .1) .1 in
     let product = bounded-none _ _ _ (p16 .before .before .before .scale .ensures) (p16 .before .scale2 .given .1) .1 in
-    summary-is s (c .before .variable-count .ensures .0) (c .record-count .ensures .0) choices product ∙ sym (past-18 p18)
+    summary-is s (c .before .variable-count .ensures .0) (c .record-count .ensures .0) choices product ∙ sym (past-17 p17)
 
-pub read-spec : {M : Type 1} → statement M
-read-spec =
+pub read-shape-spec : {M : Type 1} → statement M
+read-shape-spec =
     tie.close
     (tie.spec
     length-fault-requires
@@ -290,12 +263,7 @@ read-spec =
     refuse-requires-7
     returns-7
     enum-told-5
-    monotone-fault-requires
-    enum-known-place-8
-    refuse-requires-8
-    returns-8
-    enum-told-6
     variable-count-requires
-    cast-t25
+    cast-t23
     record-count-requires
-    returns-9)
+    returns-8)
