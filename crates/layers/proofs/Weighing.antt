@@ -16,6 +16,7 @@ use Rattle.scoring.specs.Passes.{over}
 use Rattle.scoring.proofs.Over.{over-next}
 use Rattle.layers.specs.Flows.{lowKept}
 use Rattle.layers.specs.Weighed.{Weighted, Numbered, lossOf}
+use Rattle.layers.proofs.Joining.{zero-at}
 
 -- ---------------------------------------------------------------------------
 -- An array written from the front
@@ -95,11 +96,6 @@ low-open w f = simp (ne-eqb _ _ f)
 -- ---------------------------------------------------------------------------
 -- The cells of arcs
 
-zeros-small : (n a : ℕ) → getD (replicate n 0) a 0 < 512
-zeros-small zero a = omega arith
-zeros-small (suc n) zero = omega arith
-zeros-small (suc n) (suc a) = zeros-small n a
-
 set-small : (l : List ℕ) (i x : ℕ) → i < length l → x < 512 → ((a : ℕ) → getD l a 0 < 512) → (a : ℕ) → getD (set l i x) a 0 < 512
 set-small l i x h small before a =
     by-cases (ℕ-discrete a i)
@@ -113,7 +109,7 @@ number-none order {numbers} size e =
       root = getD-set-same numbers 1 1 0 (omega arith);
       highs = λ i h. absurd (omega arith);
       lows = λ i h. absurd (omega arith);
-      few = set-small numbers 1 1 (omega arith) (omega arith) (λ a. rw e (zeros-small 512 a));
+      few = set-small numbers 1 1 (omega arith) (omega arith) (λ a. rw (e, zero-at 512 a) (omega arith));
     }
 
 -- the cells of the node at rank i are numbered, which is no node before

@@ -34,6 +34,8 @@ use Rattle.layers.specs.Layers.{Layers}
 use Rattle.layers.specs.Flows.{Stand, Line}
 use Rattle.search.specs.State.{rows, padded, openFrom, openLines, choicePosition, Ranked, numbersFrom, Holds, Scene, Visitable, ruled, Visited, Arrays, Ending, Arranged, Explored}
 use Rattle.search.proofs.OpenLines.{lines-length}
+use Rattle.layers.proofs.Joining.{over-less}
+use Rattle.layers.proofs.Chaining.{joined-few}
 use Rattle.layers.proofs.Ordering.{nodesAt, position-below, ends-rising, ends-mono, before-position, at-position, after-position, position-sum}
 
 -- ---------------------------------------------------------------------------
@@ -367,19 +369,6 @@ first-explored {s} {p} passed {percent} {budget} {failing} {from} {counted} {ord
 -- ---------------------------------------------------------------------------
 -- What the search lays out
 
--- past its end, a list written over zeros leaves zeros
-zeros-at : (n i : ℕ) → _≡_ {A = ℕ} (getD (replicate n 0) i 0) 0
-zeros-at n i =
-    by-cases (decLt i n)
-    (λ l. getD-replicate {A = ℕ} n i 0 0 l)
-    (λ f. List·getD-eq-default {A = ℕ} (replicate n 0) 0 {n = i} (rw length-replicate (omega (arith, f))))
-
-over-zeros : (new : List ℕ) (n i : ℕ) → length new ≤ i → getD (over new (replicate n 0)) i 0 ≡ 0
-unfolding over
-over-zeros new n i h =
-    let e : length new + (i - length new) ≡ i = add-sub-of-le h in
-    rw (← e, getD-append-add, getD-drop) (zeros-at n (length new + (i - length new)))
-
 -- the arrays hold the table and the plan
 pub arrays-marked : {s p : List ℕ} → Passed s → {n weight : ℕ} {ps hs ls ha la ms : List ℕ} → Arrays s n weight ps hs ls ha la → (length p ≡ choiceCount (tableOf s .variables)) × Legal p → ms ≡ marksByPosition (tableOf s) p → Marked (tableOf s) p n ps hs ls ha la ms
 arrays-marked {s} {p} passed {n} arrays plan marks =
@@ -416,11 +405,7 @@ module _ {t : Table} {p : List ℕ} {n : ℕ} {ps hs ls ha la ms : List ℕ} (m 
 
       ends-few : (x : ℕ) → getD ends x 0 < 256
       ends-few x =
-          by-cases (decLt x (length (t .variables) + 1))
-          (λ l. omega (arith, few, ends-within x (omega arith)))
-          (λ f.
-          let counts : ℕ → ℕ = λ x. length (joined (nodesAt ps (length (t .records))) x) in
-          rw (ends-same, over-zeros (sequence counts 0 (length (t .variables) + 1)) 256 x (rw sequence-length (omega (arith, f)))) (omega arith))
+          rw ended (over-less 256 (λ x. length (joined (λ y. pick ps 0 y n) x)) (v + 1) 256 (omega arith) (λ j. omega (arith, joined-few ps 0 n j, m .size)) x)
 
       pub ending : Ending t order ends
       ending =
