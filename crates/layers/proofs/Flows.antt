@@ -24,7 +24,7 @@ use Rattle.scoring.specs.Passes.{markOf, highInForce}
 use Rattle.sweep.specs.Drops.{isOf, shortfall}
 use Rattle.sweep.proofs.Leaving.{openTaken-set, open-taken, within-plan, choices-later, weights-taken, weights-left, weights-same, mark-number}
 use Rattle.sweep.proofs.Deriving.{is-false, open-within, open-zero}
-use Rattle.layers.specs.Weights.{pathWeight, into, weightSum}
+use Rattle.layers.specs.Weights.{pathWeight, weightSum}
 use Rattle.layers.specs.Layers.{Layers, inflow, put, passNode, passNodes, ownNode, ownNodes, dropSum, leaveNode, leaveNodes, Enterable}
 use Rattle.layers.specs.Flows.{lowKept, highAt, lowAt, Layered, rankSum, atSum, Line, Settles, Right, Same}
 use Rattle.layers.proofs.Weights.{weight-step, weight-local, weight-fits, drop-weights}

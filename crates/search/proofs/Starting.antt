@@ -2,7 +2,7 @@
 -- Assumes of the file that no check finds it at fault (`Passed`), and for the first visit that the arrays hold its table, laid out for a search from the
 -- plan (`Arranged`).
 use Prim.Native.Nat.{ℕ, zero, suc, _+_, _-_, _≤_, _<_, _^_, min}
-use native.Mathlib.Nat.{zero-add, add-zero, add-sub-of-le}
+use native.Mathlib.Nat.{zero-add, add-zero}
 use native.Mathlib.Omega.{arith}
 use native.Mathlib.Decide.{ℕ-discrete, decLt}
 use mathlib.Core.Path.{_≡_, refl, ap, sym, _∙_}
@@ -10,14 +10,14 @@ use mathlib.Core.Bool.{Bool, true, false, cond, false≢true}
 use mathlib.Core.Logic.{by-cases}
 use mathlib.Core.Option.{Option, none, some}
 use mathlib.Core.List.{List, [], _∷_, _++_}
-use lib.ListN.{length, getD, set, take, drop, replicate, length-set, length-append, length-replicate, getD-replicate, drop-of-length-le, List·getD-eq-default}
+use lib.ListN.{length, getD, set, take, drop, replicate, length-set, length-append, length-replicate, drop-of-length-le}
 use lib.Pow.{pow-mono}
-use lib.Seq.{getD-set-same, getD-set-other, take-length, take-append-seam, getD-drop, getD-take, getD-append-add, length-take-le, drop-cons}
+use lib.Seq.{getD-set-same, getD-set-other, take-length, take-append-seam, getD-drop, getD-take, length-take-le, drop-cons}
 use Rattle.diagram.specs.Table.{Variable, choice, chance, Table, sequence, tableOf, isChoice, choiceCount}
 use Rattle.diagram.specs.Plans.{openCount, cost}
 use Rattle.diagram.specs.Visits as visits
 use Rattle.diagram.specs.declared.plan.Plan.{Plan}
-use Rattle.diagram.proofs.Places.{sequence-at, sequence-length}
+use Rattle.diagram.proofs.Places.{sequence-at}
 use Rattle.diagram.proofs.Checked.{Passed}
 use Rattle.reading.proofs.Accepted.{passed-variables, passed-choices, passed-formed, passed-monotone}
 use Rattle.rule.proofs.Visiting.{visited-rule}

@@ -1,25 +1,25 @@
 -- What a search holds: the plan visited, what is known of it, and the best plan so far with the visits.
-use Prim.Native.Nat.{ℕ, zero, suc, _+_, _-_, _*_, _≤_, _<_, _^_}
+use Prim.Native.Nat.{ℕ, zero, suc, _+_, _-_, _≤_, _<_}
 use mathlib.Core.Path.{_≡_}
 use mathlib.Core.Bool.{Bool, _&&_, _||_}
 use mathlib.Core.List.{List, [], _∷_, _++_}
 use mathlib.Core.Option.{Option, none, some}
 use lib.ListN.{length, getD, take, replicate}
 use lib.Dec.{eqb, ltb}
-use Rattle.diagram.specs.Table.{Table, Variable, choice, chance, Record, sequence, tableOf, root, choiceCount}
+use Rattle.diagram.specs.Table.{Table, Variable, choice, chance, sequence, tableOf, root, choiceCount}
 use Rattle.diagram.specs.Score as scores
 use Rattle.diagram.specs.Plans.{openTaken, openCount, cost, upperBound}
 use Rattle.diagram.specs.Ranking.{takesFirst}
 use Rattle.diagram.specs.Visits as visits
 use Rattle.diagram.specs.declared.plan.Plan.{Plan}
 use Rattle.scoring.specs.Value.{place, gap, highArc, lowArc}
-use Rattle.scoring.specs.Passes.{over, byNode, Decoded, marksByPosition, highInForce, markAtNode}
+use Rattle.scoring.specs.Passes.{over, byNode, Decoded, marksByPosition}
 use Rattle.sweep.specs.Drops.{LargestFailing}
 use Rattle.rule.specs.Rule.{terms, rule}
 use Rattle.layers.specs.Chains.{pick, joined, placed}
 use Rattle.layers.specs.Layers.{Layers}
 use Rattle.layers.specs.Weighed.{Laid}
-use Rattle.layers.specs.Flows.{lowKept, Layered, Line, Settles, Right, Same, rankSum, atSum}
+use Rattle.layers.specs.Flows.{Layered, Line, Settles, Right, Same, rankSum, atSum}
 
 -- ---------------------------------------------------------------------------
 -- Plans

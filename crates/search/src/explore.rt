@@ -22,7 +22,7 @@ ghost use lib.ListN.{length, getD};
 ghost use Rattle.diagram.specs.Table.{tableOf, choiceCount};
 ghost use Rattle.diagram.specs.Plans.{cost};
 ghost use Rattle.diagram.proofs.Checked.{Passed};
-ghost use Rattle.scoring.specs.Passes.{Decoded};
+ghost use Rattle.scoring.specs.Passes.{Decoded, marksByPosition};
 ghost use Rattle.sweep.specs.Drops.{LargestFailing};
 ghost use Rattle.search.specs.State.{rows, Arrays, Ordered, Arranged, Explored};
 
@@ -119,6 +119,7 @@ pub fn explore(
     let mut high_arcs = [0u64; 256];
     let mut low_arcs = [0u64; 256];
     let weight = lay_out(file, n, positions, high, low, &mut high_arcs, &mut low_arcs);
+    let marks = marks_by_position(file, plan);
     arrange(
         file,
         plan,
@@ -133,10 +134,11 @@ pub fn explore(
         low,
         &high_arcs,
         &low_arcs,
+        &marks,
     )
 }
 
-// Lays the table out for the search, and begins it. The arrays hold the file's table.
+// Lays the table out for the search, and begins it. The arrays hold the file's table, and the marks are the plan's by position.
 fn arrange(
     file: &[u8],
     plan: &[u8],
@@ -151,24 +153,20 @@ fn arrange(
     low: &[u8; 256],
     high_arcs: &[u64; 256],
     low_arcs: &[u64; 256],
+    marks: &[u8; 64],
 )
     requires passed { ⌜ Passed (now file) ⌝ }
     requires plan { ⌜ (length (now plan) ≡ choiceCount (tableOf (now file) .variables)) × ((i : ℕ) → getD (now plan) i 0 ≤ 2) ⌝ }
     requires failing { ⌜ (failing ≤ 2 ^ 56) × (budget ≤ 20) × ((percent : ℕ) × LargestFailing (tableOf (now file)) percent failing) ⌝ }
     requires sizes { ⌜ (length (now best) ≡ 20) × (length (now tally) ≡ 3) ⌝ }
     requires arrays { ⌜ Arrays (now file) n weight (now positions) (now high) (now low) (now «high_arcs») (now «low_arcs») ⌝ }
+    requires marks { ⌜ now marks ≡ marksByPosition (tableOf (now file)) (now plan) ⌝ }
     ensures { λ _. ⌜ ((percent : ℕ) → LargestFailing (tableOf (now (file .entry))) percent failing → Explored (tableOf (now (file .entry))) percent budget failing (now (plan .entry)) (now (best .exit)) (now (tally .exit))) ⌝ }
 {
-    let marks = marks_by_position(file, plan);
+    let v = variable_count(file) as usize;
     let mut order = [0u16; 1024];
     let mut ends = [0u16; 256];
-    order_records(
-        n,
-        variable_count(file) as usize,
-        positions,
-        &mut order,
-        &mut ends,
-    );
+    order_records(n, v, positions, &mut order, &mut ends);
     let mut starts = [0u16; 256];
     let mut sources = [0u16; 1024];
     let mut arcs = [0u64; 1024];
@@ -179,7 +177,7 @@ fn arrange(
         low,
         high_arcs,
         low_arcs,
-        &marks,
+        marks,
         &order,
         &mut starts,
         &mut sources,
@@ -199,7 +197,7 @@ fn arrange(
         low,
         high_arcs,
         low_arcs,
-        &marks,
+        marks,
         &ends,
         &order,
         &starts,

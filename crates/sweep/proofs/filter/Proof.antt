@@ -1,7 +1,7 @@
 -- `filter` meets its contract: a refused request leaves the buffer, and so does one whose top does not pass; of any other the forced lines are written and
 -- counted. Assumes nothing.
 use native.Mathlib.Omega.{arith}
-use mathlib.Core.Path.{_≡_, ap, sym, _∙_}
+use mathlib.Core.Path.{_≡_, sym, _∙_}
 use mathlib.Core.Bool.{not}
 use lib.ListN.{length}
 use borrow.Author.Tests.{lt-ltb, le-ltb}

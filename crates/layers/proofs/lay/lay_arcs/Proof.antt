@@ -6,7 +6,7 @@ use mathlib.Core.Path.{_≡_, refl}
 use lib.ListN.{length, getD, replicate}
 use Rattle.diagram.specs.Table.{sequence}
 use Rattle.scoring.specs.Passes.{over}
-use Rattle.layers.specs.Chains.{placed, arcsInOrder}
+use Rattle.layers.specs.Chains.{arcsInOrder}
 use Rattle.layers.proofs.Laying.{list-few, starts-few}
 use borrow.Author.Needs.{needs}
 use Rattle.layers.proofs.lay.lay_arcs.Statement.{statement}

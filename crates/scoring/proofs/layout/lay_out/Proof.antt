@@ -1,6 +1,5 @@
 -- `lay_out` meets its contract: its callees fill the arrays, and the root's weight is the product of b before it.
 -- Assumes nothing.
-use mathlib.Core.Path.{_≡_}
 use Rattle.scoring.proofs.Bounding.{records-few, root-within, root-weighs}
 use borrow.Author.Needs.{needs}
 use Rattle.scoring.proofs.layout.lay_out.Statement.{statement}

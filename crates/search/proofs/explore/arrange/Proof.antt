@@ -2,7 +2,7 @@
 use Prim.Native.Nat.{ℕ, _+_, _≤_}
 use native.Mathlib.Omega.{arith}
 use mathlib.Core.Path.{_≡_, refl, ap, sym, _∙_}
-use lib.ListN.{length, getD, replicate}
+use lib.ListN.{length, replicate}
 use Rattle.diagram.specs.Table.{sequence, tableOf}
 use Rattle.reading.proofs.Counting.{variables-length}
 use Rattle.reading.proofs.Accepted.{passed-monotone}
@@ -20,67 +20,63 @@ use Rattle.search.proofs.explore.arrange.Tie as tie
 -- there are records, and few
 few : (c : tie.Start) → (1 ≤ c .args .n) × (c .args .n ≤ 254)
 few c =
-    let r = records-few (c .pre .0) _ (c .pre .1 .1 .1 .1 .size) in
+    let r = records-few (c .pre .0) _ (c .pre .1 .1 .1 .1 .0 .size) in
     (r .0, omega (arith, r .1))
 
-marks-by-position-requires : tie.Need-marks-by-position-requires
-marks-by-position-requires c κs = search needs
-
 -- the arrays hold the table and the plan
-marked : (c : tie.After-marks-by-position) →
-    let a = c .before .before .before .args in
-    Marked (tableOf (a .file .now)) (a .plan .now) (a .n) (a .positions .now) (a .high .now) (a .low .now) (a .high-arcs .now) (a .low-arcs .now) (c .marks-by-position .result)
+marked : (c : tie.Start) →
+    let a = c .args in
+    Marked (tableOf (a .file .now)) (a .plan .now) (a .n) (a .positions .now) (a .high .now) (a .low .now) (a .high-arcs .now) (a .low-arcs .now) (a .marks .now)
 marked c =
-    let pre = c .before .before .before .pre in
-    arrays-marked (pre .0) (pre .1 .1 .1 .1) (pre .1 .0) (c .marks-by-position .ensures)
+    let pre = c .pre in
+    arrays-marked (pre .0) (pre .1 .1 .1 .1 .0) (pre .1 .0) (pre .1 .1 .1 .1 .1)
 
 variable-count-requires : tie.Need-variable-count-requires
 variable-count-requires c κs = search needs
 
 -- the number of variables
-variables : (c : tie.After-variable-count) → c .variable-count .result ≡ length (tableOf (c .before .before .before .before .args .file .now) .variables)
+variables : (c : tie.After-variable-count) → c .variable-count .result ≡ length (tableOf (c .before .before .before .args .file .now) .variables)
 variables c = c .variable-count .ensures .0 ∙ sym (variables-length _)
 
-cast-order-records : tie.Need-cast-order-records
-cast-order-records c = search needs
+cast-v : tie.Need-cast-v
+cast-v c = search needs
 
 order-records-requires : tie.Need-order-records-requires
 order-records-requires c κs =
-    let m = marked (c .before .before .before) in
     let v = variables (c .before .before) in
-    ((few (c .before .before .before .before .before .before) .1, omega (arith, v, m .few), refl, refl), records-placed m v)
+    let start = c .before .before .before .before .before in
+    let m = marked start in
+    ((few start .1, omega (arith, v, m .few), refl, refl), records-placed m v)
 
 -- the nodes in order
 ordered : (c : tie.After-order-records) →
-    let a = c .before .before .before .before .before .before .before .args in
+    let a = c .before .before .before .before .before .before .args in
     c .order-records .last .1 .1 .1 .0 ≡ placed (replicate 1024 0) 0 (joined (nodesAt (a .positions .now) (a .n)) (length (tableOf (a .file .now) .variables)))
-ordered c = order-is (marked (c .before .before .before .before)) (variables (c .before .before .before)) (c .order-records .ensures .0)
+ordered c = order-is (marked (c .before .before .before .before .before .before)) (variables (c .before .before .before)) (c .order-records .ensures .0)
 
 -- how many nodes stand before each position
 ended : (c : tie.After-order-records) →
-    let a = c .before .before .before .before .before .before .before .args in
+    let a = c .before .before .before .before .before .before .args in
     c .order-records .last .1 .1 .1 .1 .0 ≡ over (sequence (λ x. length (joined (nodesAt (a .positions .now) (a .n)) x)) 0 (length (tableOf (a .file .now) .variables) + 1)) (replicate 256 0)
 ended c =
-    let a = c .before .before .before .before .before .before .before .args in
+    let a = c .before .before .before .before .before .before .args in
     c .order-records .ensures .1 ∙ ap (λ (v : ℕ). over (sequence (λ x. length (joined (nodesAt (a .positions .now) (a .n)) x)) 0 (v + 1)) (replicate 256 0)) (variables (c .before .before .before))
 
 lay-arcs-requires : tie.Need-lay-arcs-requires
 lay-arcs-requires c κs =
-    let laid = c .before .before .before .before .before in
-    let placed = laid .before .before .before .before in
-    let start = placed .before .before .before in
-    let m = marked placed in
+    let order = c .before .before .before .before in
+    let start = order .before .before .before .before .before .before in
+    let m = marked start in
     let monotone = passed-monotone (start .pre .0) in
     let n = few start in
-    let o = ordered laid in
+    let o = ordered order in
     ((n .1, nodes-within m monotone (n .0) o, nodes-distinct m monotone (n .0) o), ((position-within m, room-for-arcs m monotone (n .0) o), (refl, refl, refl)))
 
 evaluate-requires : tie.Need-evaluate-requires
 evaluate-requires c κs =
-    let laid = c .before .before .before .before .before .before .before .before in
-    let order = laid .before .before .before .before .before .before in
-    let placed = order .before .before .before .before in
-    let pre = placed .before .before .before .pre in (
+    let laid = c .before .before .before .before .before .before .before in
+    let order = laid .before .before .before .before .before in
+    let pre = order .before .before .before .before .before .before .pre in (
       pre .0,
       (
         pre .1 .0,
@@ -89,13 +85,8 @@ evaluate-requires c κs =
           (
             pre .1 .1 .1 .0,
             (
-              pre .1 .1 .1 .1,
-              record {
-                marking = placed .marks-by-position .ensures;
-                nodes = ordered order;
-                ending = ended order;
-                laid = laid .lay-arcs .ensures;
-              },
+              pre .1 .1 .1 .1 .0,
+              record { marking = pre .1 .1 .1 .1 .1; nodes = ordered order; ending = ended order; laid = laid .lay-arcs .ensures },
             ),
           ),
         ),
@@ -109,9 +100,8 @@ pub arrange-spec : {M : Type 1} → statement M
 arrange-spec =
     tie.close
     (tie.spec
-    marks-by-position-requires
     variable-count-requires
-    cast-order-records
+    cast-v
     order-records-requires
     lay-arcs-requires
     evaluate-requires

@@ -19,10 +19,15 @@ lay-out-requires c κs =
     let pre = c .before .before .before .before .before .pre in
     ((pre .0, size (c .before .before)), (pre .1 .1 .1 .0, (refl, refl)))
 
+marks-by-position-requires : tie.Need-marks-by-position-requires
+marks-by-position-requires c κs = search needs
+
 arrange-requires : tie.Need-arrange-requires
 arrange-requires c κs =
-    let pre = c .before .before .before .before .before .before .before .before .before .before .pre in
-    let laid = c .before .before .before .before .lay-out .ensures in (
+    let marks = c .before .before .before .before .before in
+    let laid = marks .before in
+    let counted = laid .before .before .before in
+    let pre = counted .before .before .before .pre in (
       pre .0,
       (
         pre .1 .0,
@@ -30,13 +35,16 @@ arrange-requires c κs =
           pre .1 .1 .0,
           (
             pre .1 .1 .1 .1,
-            record {
-              size = size (c .before .before .before .before .before .before .before);
-              weighs = laid .1 .1;
-              decoded = pre .1 .1 .1 .0;
-              high-arcs = laid .0;
-              low-arcs = laid .1 .0;
-            },
+            (
+              record {
+                size = size counted;
+                weighs = laid .lay-out .ensures .1 .1;
+                decoded = pre .1 .1 .1 .0;
+                high-arcs = laid .lay-out .ensures .0;
+                low-arcs = laid .lay-out .ensures .1 .0;
+              },
+              marks .marks-by-position .ensures,
+            ),
           ),
         ),
       ),
@@ -46,4 +54,4 @@ returns : tie.Need-returns
 returns c = search needs
 
 pub explore-spec : {M : Type 1} → statement M
-explore-spec = tie.close (tie.spec record-count-requires lay-out-requires arrange-requires returns)
+explore-spec = tie.close (tie.spec record-count-requires lay-out-requires marks-by-position-requires arrange-requires returns)
