@@ -29,7 +29,8 @@ checked-end answer s = refl
 -- ---------------------------------------------------------------------------
 -- Lists of checks
 
-answered-not-refused : {A : Type 0} (a : A) (n i : ℕ) → answered a ≡ refused n i → ⊥
+-- an answer is no refusal
+pub answered-not-refused : {A : Type 0} (a : A) (n i : ℕ) → answered a ≡ refused n i → ⊥
 answered-not-refused a n i e =
     let z : _≡_ {A = ℕ} 0 1 = cc in
     omega arith
@@ -86,7 +87,7 @@ pub record Passed (s : List ℕ) : Type 0 where
   pub monotone : monotoneFault s ≡ none
 
 -- the first check of a list that answers has passed, and so has the rest
-first-passed : (c : Check) (cs : List Check) (s : List ℕ) (r : Reading) → checked (c ∷ cs) (λ file. answered (reading file)) s ≡ answered r → (c .fault s ≡ none) × (checked cs (λ file. answered (reading file)) s ≡ answered r)
+pub first-passed : (c : Check) (cs : List Check) (s : List ℕ) (r : Reading) → checked (c ∷ cs) (λ file. answered (reading file)) s ≡ answered r → (c .fault s ≡ none) × (checked cs (λ file. answered (reading file)) s ≡ answered r)
 first-passed c cs s r e = go (c .fault s) refl
   where
     go : (o : Option ℕ) → c .fault s ≡ o → (c .fault s ≡ none) × (checked cs (λ file. answered (reading file)) s ≡ answered r)

@@ -10,7 +10,7 @@ use lib.ListN.{take, drop}
 use Rattle.diagram.specs.Checks.{Check, monotoneFault, tableChecks}
 use Rattle.diagram.specs.Table.{Record, tableOf, variableCount, recordCount, choiceCount, scaleOf, scale}
 use Rattle.diagram.specs.Services.{Outcome, refused, answered, checked, written, reading, readOutcome, Reading}
-use Rattle.diagram.proofs.Checked.{checked-passes, checked-stops, checked-end, checked-append, checked-answered, checked-refused, Passed, read-passed, read-reading}
+use Rattle.diagram.proofs.Checked.{checked-passes, checked-stops, checked-end, checked-append, checked-answered, checked-refused, answered-not-refused, first-passed, Passed, read-passed, read-reading}
 use Rattle.diagram.specs.declared.refusal.Refusal.{Refusal}
 use Rattle.reading.specs.declared.answer.Summary.{Summary}
 use Rattle.reading.specs.declared.answer.ReadAnswer.{ReadAnswer}
@@ -66,20 +66,6 @@ module _ (c : Check) (cs : List Check) (s : List ℕ) where
   pub stops : (i : ℕ) → c .fault s ≡ some i → refused (c .number) i ≡ readFrom (c ∷ cs) s
   stops i e = sym (checked-stops c cs _ s i e)
 
--- an answer is no refusal
-answered-not-refused : (a : Reading) (n i : ℕ) → answered a ≡ refused n i → ⊥
-answered-not-refused a n i e =
-    let z : _≡_ {A = ℕ} 0 1 = cc in
-    omega arith
-
--- the first check of a list that answers has passed, and so has the rest
-first-passed : (c : Check) (cs : List Check) {s : List ℕ} (a : Reading) → readFrom (c ∷ cs) s ≡ answered a → (c .fault s ≡ none) × (readFrom cs s ≡ answered a)
-first-passed c cs {s} a e = go (c .fault s) refl
-  where
-    go : (o : Option ℕ) → c .fault s ≡ o → (c .fault s ≡ none) × (readFrom cs s ≡ answered a)
-    go none q = (q, sym (goes-on c cs s q) ∙ e)
-    go (some i) q = absurd (answered-not-refused a (c .number) i (sym e ∙ sym (stops c cs s i q)))
-
 -- the four numbers of an accepted file
 pub summary-is : (s : List ℕ) {v n c x : ℕ} → v ≡ variableCount s → n ≡ recordCount s → c ≡ choiceCount (tableOf s .variables) → x ≡ scaleOf (tableOf s .variables) → answered (record { variables = v; records = n; choices = c; scale = x }) ≡ answered (reading s)
 unfolding reading scale
@@ -130,10 +116,10 @@ module _ (s : List ℕ) where
     pub shape-shaped : Shaped s
     unfolding shapeOutcome tableChecks
     shape-shaped =
-        let c12 = first-passed _ _ a (first-passed _ _ a e .1) in
-        let c13 = first-passed _ _ a (c12 .1) in
-        let c16 = first-passed _ _ a (first-passed _ _ a (first-passed _ _ a (c13 .1) .1) .1) in
-        let c17 = first-passed _ _ a (c16 .1) in
+        let c12 = first-passed _ _ s a (first-passed _ _ s a e .1) in
+        let c13 = first-passed _ _ s a (c12 .1) in
+        let c16 = first-passed _ _ s a (first-passed _ _ s a (first-passed _ _ s a (c13 .1) .1) .1) in
+        let c17 = first-passed _ _ s a (c16 .1) in
         record { heading = c12 .0; count = c13 .0; records = c17 .0 }
 
 -- ---------------------------------------------------------------------------
