@@ -112,12 +112,12 @@ fn line(job: &Job) {
     assert!(answers[1..].iter().all(|other| *other == answers[0]), "{answers:?}");
     assert!(answers[0].0.is_ok_and(|found| found.visits == job.visits));
 
-    let [read, plain_read] = times(200, 50, |i| {
+    let [read, plain_read] = times(2000, 50, |i| {
         let file = black_box(file);
         black_box(if i == 0 { jigbalo::read(file) } else { plain::read(file) }).ok();
     });
     let mut drops = [0; 20];
-    let [sweep, plain_sweep] = times(200, 50, |i| {
+    let [sweep, plain_sweep] = times(2000, 50, |i| {
         let file = black_box(file);
         let top = if i == 0 { jigbalo::sweep(file, &OPEN, &mut drops) } else { plain::sweep(file, &OPEN, &mut drops) };
         black_box(top).ok();
