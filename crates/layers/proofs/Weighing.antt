@@ -96,6 +96,10 @@ low-open w f = simp (ne-eqb _ _ f)
 -- ---------------------------------------------------------------------------
 -- The cells of arcs
 
+-- the two cells of node n, which is read as m
+pub both-numbered : (l : List ℕ) {m n : ℕ} (x y : ℕ) → m ≡ n → set (set l m x) (m + 256) y ≡ set (set l n x) (n + 256) y
+both-numbered l x y e = rw e refl
+
 set-small : (l : List ℕ) (i x : ℕ) → i < length l → x < 512 → ((a : ℕ) → getD l a 0 < 512) → (a : ℕ) → getD (set l i x) a 0 < 512
 set-small l i x h small before a =
     by-cases (ℕ-discrete a i)

@@ -1,5 +1,7 @@
 -- `number_node` meets its contract: the cells are written at the numbers of the node's two arcs. Assumes nothing.
+use Prim.Native.Nat.{_+_}
 use borrow.Author.Needs.{needs}
+use Rattle.layers.proofs.Weighing.{both-numbered}
 use Rattle.layers.proofs.weigh.number_node.Statement.{statement}
 use Rattle.layers.proofs.weigh.number_node.Tie as tie
 
@@ -34,7 +36,9 @@ element-write-numbers-2 : tie.Need-element-write-numbers-2
 element-write-numbers-2 c = search needs
 
 returns : tie.Need-returns
-returns c = rw (c .number .ensures)
+returns c =
+    let a = c .before .args in
+    both-numbered (a .numbers .now) (a .i + 2) (a .i + 258) (c .number .ensures)
 
 pub number-node-spec : {M : Type 1} → statement M
 number-node-spec =
