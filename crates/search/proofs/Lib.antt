@@ -1,4 +1,4 @@
--- Laws of the search, and demand 2.
+-- Laws of the search.
 pub mod Rows
 pub mod OpenLines
 pub mod Tallying
@@ -7,4 +7,3 @@ pub mod Branching
 pub mod VisitSteps
 pub mod Starting
 pub mod Answering
-pub mod Demanded

@@ -1,4 +1,3 @@
--- What a search holds at each visit, what the enum of this crate stands for, and demand 2 of the briefing.
+-- What a search holds at each visit, and what the enum of this crate stands for.
 pub mod State
 pub mod Answer
-pub mod Demand

@@ -1,6 +1,4 @@
--- The laws of the pass down, of the drops and of the filter, and demand 3.
-pub mod Completing
-pub mod Demanded
+-- The laws of the pass down, of the drops and of the filter.
 pub mod Requesting
 pub mod Serving
 pub mod ForcedLines

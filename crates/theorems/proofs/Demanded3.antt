@@ -16,20 +16,22 @@ use Rattle.diagram.specs.Score.{score}
 use Rattle.diagram.specs.Plans.{completions, openTaken, isOpen, upperBound, derivative, derivatives, noneOf, passing, forced, forcedPlan, countOf, forcedCount}
 use Rattle.diagram.specs.Checks.{planMarkFault}
 use Rattle.diagram.specs.Services.{refused, answered, written, reading, Sweeping, Filtering, sweepOutcome, filtering, filterOutcome, filterBuffer}
+use Rattle.diagram.specs.declared.refusal.Refusal.{Refusal}
 use Rattle.diagram.proofs.Every.{both, and-true-both, both-ways}
 use Rattle.diagram.proofs.Places.{sequence-length, sequence-at, no-place}
 use Rattle.diagram.proofs.Checked.{Passed, read-passed}
 use Rattle.diagram.proofs.Rising.{drop-le-bound}
 use Rattle.reading.proofs.Accepted.{passed-formed, passed-monotone}
 use Rattle.sweep.specs.declared.answer.SweepAnswer.{SweepAnswer}
 use Rattle.sweep.specs.declared.answer.SweepAnswer.the-variants as sweep
 use Rattle.sweep.specs.declared.answer.FilterAnswer.{FilterAnswer}
 use Rattle.sweep.specs.declared.answer.FilterAnswer.the-variants as filter
 use Rattle.sweep.specs.Answer.{sweepOf, filterOf}
-use Rattle.sweep.specs.Demand.{Accepted, LegalMarking, Open, NonePasses, NoneLeaves, SweepHolds, FilterHolds, Demand3}
+use Rattle.theorems.specs.Plans.{Accepted, LegalMarking, Open, NonePasses, NoneLeaves}
+use Rattle.theorems.specs.Demand3.{none-passes, SweepHolds, FilterHolds, Demand3}
 use Rattle.sweep.specs.Request.{requestOutcome}
 use Rattle.sweep.proofs.Requesting.{request-accepted, sweep-answered, filter-answered}
-use Rattle.sweep.proofs.Completing.{open-test, test-open, closed-test, no-way-passes, no-way-leaves}
+use Rattle.theorems.proofs.Completing.{open-test, test-open, closed-test, no-way-passes, no-way-leaves}
 
 -- ---------------------------------------------------------------------------
 -- The checks
@@ -117,6 +119,12 @@ refused-is (filter.Refused r) plan {n} {i} e =
     let b : r .place ≡ i = cc in
     rw (← a, ← b) refl
 
+-- no answer is a number of lines and a refusal
+forced-not-refused : {n : ℕ} {r : Refusal} → filter.Forced n ≡ filter.Refused r → ⊥
+forced-not-refused e =
+    let z : _≡_ {A = ℕ} 0 1 = cc in
+    omega arith
+
 -- two tests that agree below n hold of as many numbers
 count-same : (f g : ℕ → Bool) (n : ℕ) → ((i : ℕ) → i < n → f i ≡ g i) → countOf f n ≡ countOf g n
 unfolding countOf
@@ -183,41 +191,43 @@ module _ (s p : List ℕ) (percent : ℕ) where
           cond-one (isForced i) _ (eqb-true _ 0 (r .0)) (sym (mark-at i l) ∙ eqb-true _ 1 (r .1))
 
   -- where no way passes
-  refuses-holds : NonePasses s p percent → (held : List ℕ) → length held ≡ length p → FilterHolds s p percent (filter.Refused (record { number = 31; place = 0 })) held
+  refuses-holds : NonePasses s p percent → (held : List ℕ) → length held ≡ length p → FilterHolds s p percent held none-passes held
   refuses-holds no-way held fits =
       record {
         size = fits;
         refuses = (λ e. no-way, λ n. refl);
+        leaves = λ e. refl;
         takes = λ f. absurd (f no-way);
         keeps = λ f. absurd (f no-way);
         counts = λ f. absurd (f no-way);
       }
 
   -- where some way passes
-  forces-holds : (NonePasses s p percent → ⊥) → FilterHolds s p percent (filter.Forced (forcedCount (tableOf s) percent p)) marks
+  forces-holds : (NonePasses s p percent → ⊥) → (held : List ℕ) → FilterHolds s p percent held (filter.Forced (forcedCount (tableOf s) percent p)) marks
   unfolding forcedPlan
-  forces-holds some =
+  forces-holds some held =
       record {
         size = sequence-length _ 0 (length p);
-        refuses = (λ e. let z : _≡_ {A = ℕ} 0 1 = cc in absurd (omega arith), λ n. absurd (some n));
+        refuses = (λ e. absurd (forced-not-refused e), λ n. absurd (some n));
+        leaves = λ e. absurd (forced-not-refused e);
         takes = λ f. takes-line;
         keeps = λ f. keeps-line;
         counts = λ f. ap filter.Forced counts-lines;
       }
 
   -- the filter's answer and buffer, by whether any way passes
-  filter-holds : (held plan : List ℕ) (answer : FilterAnswer) → length held ≡ length p → filterOf answer plan ≡ filtering (tableOf s) percent p → plan ≡ written (λ a. a .plan) (filtering (tableOf s) percent p) held → FilterHolds s p percent answer plan
+  filter-holds : (held plan : List ℕ) (answer : FilterAnswer) → length held ≡ length p → filterOf answer plan ≡ filtering (tableOf s) percent p → plan ≡ written (λ a. a .plan) (filtering (tableOf s) percent p) held → FilterHolds s p percent held answer plan
   unfolding filtering written
   filter-holds held plan answer fits e b = go (noneOf (passing (tableOf s) percent) (completions p)) refl
     where
-      go : (c : Bool) → noneOf (passing (tableOf s) percent) (completions p) ≡ c → FilterHolds s p percent answer plan
+      go : (c : Bool) → noneOf (passing (tableOf s) percent) (completions p) ≡ c → FilterHolds s p percent held answer plan
       go true q =
           let is = refused-is answer plan (rw q at e) in
           let same : plan ≡ held = rw q at b in
           rw (is, same) (refuses-holds (no-way-passes s percent p .0 q) held fits)
       go false q =
           let is = forced-is answer plan (rw q at e) in
-          rw (is .0, is .1) (forces-holds (λ n. false≢true (sym q ∙ no-way-passes s percent p .1 n)))
+          rw (is .0, is .1) (forces-holds (λ n. false≢true (sym q ∙ no-way-passes s percent p .1 n)) held)
 
 -- ---------------------------------------------------------------------------
 -- Both

@@ -1,5 +1,5 @@
--- What demand 3 says of completions, passing and leaving, in the terms of the definitions: its completions are the elements of `completions`, so that
--- its two claims that no completion is of some kind are tests over that list.
+-- What the demands say of completions, passing and leaving, in the terms of the definitions: their completions are the elements of `completions`, so that
+-- the two claims that no completion is of some kind are tests over that list.
 -- Assumes nothing.
 use Prim.Native.Nat.{ℕ, zero, suc, _<_}
 use native.Mathlib.Omega.{arith}
@@ -13,7 +13,7 @@ use Rattle.diagram.specs.Table.{tableOf}
 use Rattle.diagram.specs.Plans.{completions, isOpen, leaves, noneOf, passing, passes}
 use Rattle.diagram.proofs.Every.{both, and-true-both}
 use Rattle.diagram.proofs.Rising.{Completes, complete, takes, leaves-open, keeps, all-complete, each-complete}
-use Rattle.sweep.specs.Demand.{Open, Completion, NonePasses, NoneLeaves}
+use Rattle.theorems.specs.Plans.{Open, Completion, NonePasses, NoneLeaves}
 
 -- ---------------------------------------------------------------------------
 -- Open lines

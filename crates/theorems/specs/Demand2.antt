@@ -1,27 +1,32 @@
--- Demand 2 of the briefing, in its words and with its quantifiers written out. It speaks of what `search` returns and writes, and of scores; nothing in it
--- is about a visit or a fold. Document 01 explains the words. The demand's first sentence, what a score is, is the definition of `score` (`diagram`,
--- Score): the explicit sum over all settlings of all chances.
+-- Demand 2 of the briefing, in its words and with its quantifiers written out. It speaks of what `score` returns and of what `search` returns and writes;
+-- nothing in it is about a visit or a fold. Document 01 explains the words.
 use Prim.Native.Nat.{ℕ, _≤_, _<_}
 use mathlib.Core.Path.{_≡_}
+use mathlib.Core.Bool.{cond}
 use mathlib.Core.Logic.{_⊎_, _↔_}
-use mathlib.Core.List.{List}
+use mathlib.Core.List.{List, map}
 use lib.ListN.{length, getD}
-use Rattle.diagram.specs.Table.{tableOf}
-use Rattle.diagram.specs.Score.{score}
+use Rattle.diagram.specs.Table.{tableOf, root}
+use Rattle.diagram.specs.Score.{truth, settlings, weight, sum, score}
 use Rattle.diagram.specs.Plans.{takenCount}
-use Rattle.diagram.specs.Services.{searchOutcome, searchBuffer}
-use Rattle.sweep.specs.Demand.{Accepted, LegalMarking, Completion, Passing}
+use Rattle.diagram.specs.Services.{scoreOutcome, searchOutcome, searchBuffer}
+use Rattle.scoring.specs.declared.answer.ScoreAnswer.{ScoreAnswer}
+use Rattle.scoring.specs.declared.answer.ScoreAnswer.the-variants.{Score}
+use Rattle.scoring.specs.Answer.{outcomeOf}
 use Rattle.search.specs.declared.answer.Finding.{Finding}
 use Rattle.search.specs.declared.answer.SearchAnswer.{SearchAnswer}
 use Rattle.search.specs.declared.answer.SearchAnswer.the-variants.{Found, Refused}
 use Rattle.search.specs.Answer.{searchOf}
+use Rattle.theorems.specs.Plans.{Accepted, LegalMarking, FullPlan, Candidate, NoCandidate}
 
--- "plans that finish the one given, stay within the kits and pass the percentage". A plan takes as many kits as it takes lines, whether a line was
--- taken before, is forced or is chosen: no line is counted twice.
-pub record Candidate (file plan : List ℕ) (budget percent : ℕ) (way : List ℕ) : Type 0 where
-  pub finishes : Completion plan way
-  pub within : takenCount way ≤ budget
-  pub passes : Passing file percent way
+-- "the weighted count of chance outcomes that lead to true": the sum, over all settlings of all chances with the choices as the plan says, of the
+-- products of those whose walk from the root ends in true
+abbrev pub weightedCount : (file plan : List ℕ) → ℕ
+weightedCount file plan =
+    sum
+    (map
+    (λ s. cond (truth (tableOf file .records) s (root (tableOf file))) (weight (tableOf file .variables) s) 0)
+    (settlings (tableOf file .variables) plan))
 
 -- "at the lowest choice number where two differ, the one that takes it"
 pub record TakesFirst (way other : List ℕ) : Type 0 where
@@ -55,19 +60,25 @@ pub record SearchHolds (file plan : List ℕ) (budget percent : ℕ) (held : Lis
   -- "The plan returned is the first", and the score returned is its score, "with no rounding"
   pub finds : (f : Finding) → answer ≡ Found f → FirstCandidate file plan budget percent written × (f .score ≡ score (tableOf file) written)
   -- "32 is returned if there is no such plan, and only then"
-  pub refuses : (answer ≡ no-candidate) ↔ ((way : List ℕ) → Candidate file plan budget percent way → ⊥)
+  pub refuses : (answer ≡ no-candidate) ↔ NoCandidate file plan budget percent
   -- and, of demand 1, "a turned-away request leaves the plan and the drops as they were"
   pub leaves : answer ≡ no-candidate → written ≡ held
 
--- Demand 2: for every accepted table, every legal marking, and kits and percent within their limits ("Once every other check passes"). The buffer handed
--- in has one place a choice. What is assumed of answer and buffer is word for word what `search` promises.
+-- Demand 2, of every accepted table. "The score of a full plan is the weighted count of chance outcomes that lead to true [..] with no rounding", for
+-- every full plan; and for every legal marking, and kits and percent within their limits ("Once every other check passes"), what is said of the search. Its
+-- buffer has one place a choice. What is assumed of answer and buffer is word for word what `score` and `search` promise.
 unfoldable pub Demand2 : Type 0
 Demand2 =
-    (file plan : List ℕ) → Accepted file → LegalMarking file plan →
-    (budget percent : ℕ) (held written : List ℕ) (answer : SearchAnswer) →
+    (file : List ℕ) → Accepted file →
+    ((plan : List ℕ) (answer : ScoreAnswer) →
+    FullPlan file plan →
+    outcomeOf answer ≡ scoreOutcome file plan →
+    answer ≡ Score (weightedCount file plan))
+    × ((plan : List ℕ) (budget percent : ℕ) (held written : List ℕ) (answer : SearchAnswer) →
+    LegalMarking file plan →
     budget ≤ 20 →
     percent ≤ 100 →
     length held ≡ length plan →
     searchOf answer written ≡ searchOutcome file plan budget percent (length held) →
     written ≡ searchBuffer file plan budget percent held →
-    SearchHolds file plan budget percent held answer written
+    SearchHolds file plan budget percent held answer written)

@@ -1,33 +1,42 @@
--- Demand 2: what `search` promises is what the briefing demands of it.
+-- Demand 2: what `score` and `search` promise is what the briefing demands of them.
 -- Assumes nothing.
 use Prim.Native.Nat.{ℕ, zero, suc, _<_}
+use native.Mathlib.Nat.{zero-add}
 use native.Mathlib.Omega.{arith}
 use mathlib.Core.Path.{_≡_, refl, ap, sym, _∙_}
-use mathlib.Core.Bool.{true, false≢true}
-use mathlib.Core.Logic.{inl, inr, ⊎-elim}
+use mathlib.Core.Bool.{true, false, _||_, false≢true}
+use mathlib.Core.Logic.{_⊎_, inl, inr, ⊎-elim}
 use mathlib.Core.Option.{Option, none, some}
 use mathlib.Core.List.{List, _∷_}
 use lib.ListN.{length, getD}
-use lib.Dec.{leb}
+use lib.Dec.{eqb, ltb, leb}
 use borrow.Author.Tests.{ltb-true, lt-ltb, leb-true, le-leb, eq-eqb}
 use Rattle.diagram.specs.Table.{tableOf}
-use Rattle.diagram.specs.Score.{score}
+use Rattle.diagram.specs.Score.{score, scoreFrom, total}
 use Rattle.diagram.specs.Plans.{cost, takenCount, passing, passes}
 use Rattle.diagram.specs.Ranking.{takesFirst, ranksBefore, isCandidate, bestPlan}
-use Rattle.diagram.specs.Services.{refused, answered, written, Searching, searching, searchBuffer}
+use Rattle.diagram.specs.Checks.{fullPlanFault, scoreChecks}
+use Rattle.diagram.specs.Services.{refused, answered, written, Searching, scoreOutcome, searching, searchBuffer}
 use Rattle.diagram.specs.declared.refusal.Refusal.{Refusal}
 use Rattle.diagram.proofs.Every.{both, and-true-both}
+use Rattle.diagram.proofs.Places.{no-place}
+use Rattle.diagram.proofs.Checked.{checked-passes, checked-end, read-answers}
 use Rattle.diagram.proofs.Rising.{Completes, complete, takes, leaves-open, keeps}
 use Rattle.rule.proofs.Order.{Before, higher, fewer, first, ranks}
 use Rattle.rule.proofs.First.{best-first, best-some}
-use Rattle.sweep.proofs.Completing.{completion-completes, completes-completion}
+use Rattle.theorems.proofs.Completing.{completion-completes, completes-completion}
 use Rattle.sweep.proofs.Requesting.{search-answered}
-use Rattle.sweep.proofs.Demanded.{legal-request}
+use Rattle.theorems.proofs.Demanded3.{legal-request}
+use Rattle.scoring.specs.declared.answer.ScoreAnswer.{ScoreAnswer}
+use Rattle.scoring.specs.declared.answer.ScoreAnswer.the-variants as scores
+use Rattle.scoring.specs.Answer.{outcomeOf}
+use Rattle.scoring.proofs.Requests.{length-fits}
 use Rattle.search.specs.declared.answer.Finding.{Finding}
 use Rattle.search.specs.declared.answer.SearchAnswer.{SearchAnswer}
 use Rattle.search.specs.declared.answer.SearchAnswer.the-variants.{Found, Refused}
 use Rattle.search.specs.Answer.{searchOf}
-use Rattle.search.specs.Demand.{Candidate, TakesFirst, RanksBefore, FirstCandidate, no-candidate, SearchHolds, Demand2}
+use Rattle.theorems.specs.Plans.{Accepted, FullPlan, Candidate}
+use Rattle.theorems.specs.Demand2.{weightedCount, TakesFirst, RanksBefore, FirstCandidate, no-candidate, SearchHolds, Demand2}
 
 -- ---------------------------------------------------------------------------
 -- The ranking
@@ -164,9 +173,50 @@ module _ (s p : List ℕ) (budget percent : ℕ) where
           let is = found-is answer plan (rw (q, searching) at e) in
           rw (is .0, is .1) (some-holds c q _ held)
 
--- demand 2: the promise of `search` is turned into what is demanded
+-- ---------------------------------------------------------------------------
+-- The score
+
+-- taken and left lines pass the score's check 22
+full-marks : (p s : List ℕ) → ((i : ℕ) → i < length p → (getD p i 0 ≡ 1) ⊎ (getD p i 0 ≡ 2)) → fullPlanFault p s ≡ none
+unfolding fullPlanFault
+full-marks p s h = no-place (λ i. ltb 2 (getD p i 0) || eqb (getD p i 0) 0) 0 (length p) (λ k l. rw zero-add (settled (getD p k 0) (h k l)))
+  where
+    settled : (m : ℕ) → (m ≡ 1) ⊎ (m ≡ 2) → (ltb 2 m || eqb m 0) ≡ false
+    settled m (inl e) = rw e refl
+    settled m (inr e) = rw e refl
+
+-- an answer that stands for a score
+score-is : (answer : ScoreAnswer) {x : ℕ} → outcomeOf answer ≡ answered x → answer ≡ scores.Score x
+unfolding outcomeOf
+score-is (scores.Score y) e = ap scores.Score (cc)
+score-is (scores.Refused r) e =
+    let z : _≡_ {A = ℕ} 0 1 = cc in
+    absurd (omega arith)
+
+module _ (s p : List ℕ) (read : Accepted s) (full : FullPlan s p) where
+  -- what the score answers to a full plan of an accepted table
+  scored : scoreOutcome s p ≡ answered (score (tableOf s) p)
+  unfolding scoreOutcome scoreChecks
+  scored =
+      read-answers s _ _ _ read
+      ∙ checked-passes _ _ _ s (length-fits p s (full .size))
+      ∙ checked-passes _ _ _ s (full-marks p s (full .marks))
+      ∙ checked-end _ s
+
+  -- a score is the weighted count
+  counted : score (tableOf s) p ≡ weightedCount s p
+  unfolding score scoreFrom total
+  counted = refl
+
+-- ---------------------------------------------------------------------------
+-- Both
+
+-- demand 2: the promises of `score` and `search` are turned into what is demanded
 pub demand-2 : Demand2
 unfolding Demand2 searchBuffer
-demand-2 s p read legal budget percent held plan answer kits h fits e b =
-    let is = search-answered s p (length held) percent budget _ (legal-request s p read legal (length held) fits budget percent kits h) in
-    search-holds s p budget percent held plan answer (e ∙ is) (b ∙ rw is refl)
+demand-2 s read = (
+  λ p answer full e. score-is answer (e ∙ scored s p read full ∙ ap answered (counted s p read full)),
+  λ p budget percent held plan answer legal kits h fits e b.
+      let is = search-answered s p (length held) percent budget _ (legal-request s p read legal (length held) fits budget percent kits h) in
+      search-holds s p budget percent held plan answer (e ∙ is) (b ∙ rw is refl),
+)

@@ -1,53 +1,22 @@
 -- Demand 3 of the briefing, in its words and with its quantifiers written out. It speaks of what `sweep` and `filter` return and write, and of scores
 -- counted afresh; nothing in it is about a pass. Document 01 explains the words.
-use Prim.Native.Nat.{ℕ, _+_, _*_, _≤_, _<_}
+use Prim.Native.Nat.{ℕ, _+_, _≤_, _<_}
 use mathlib.Core.Path.{_≡_}
 use mathlib.Core.Bool.{_&&_}
-use mathlib.Core.Logic.{_⊎_, _↔_}
+use mathlib.Core.Logic.{_↔_}
 use mathlib.Core.List.{List}
 use lib.ListN.{length, getD, set}
 use lib.Dec.{eqb}
-use Rattle.diagram.specs.Table.{tableOf, scale, choiceCount}
+use Rattle.diagram.specs.Table.{tableOf}
 use Rattle.diagram.specs.Score.{score}
 use Rattle.diagram.specs.Plans.{openTaken, countOf}
-use Rattle.diagram.specs.Services.{answered, reading, readOutcome, sweepOutcome, sweepBuffer, filterOutcome, filterBuffer}
+use Rattle.diagram.specs.Services.{sweepOutcome, sweepBuffer, filterOutcome, filterBuffer}
 use Rattle.sweep.specs.declared.answer.SweepAnswer.{SweepAnswer}
 use Rattle.sweep.specs.declared.answer.SweepAnswer.the-variants.{Bound}
 use Rattle.sweep.specs.declared.answer.FilterAnswer.{FilterAnswer}
 use Rattle.sweep.specs.declared.answer.FilterAnswer.the-variants.{Forced, Refused}
 use Rattle.sweep.specs.Answer.{sweepOf, filterOf}
-
--- "a table is accepted when reading has no ground to turn it away"
-abbrev pub Accepted : (file : List ℕ) → Type 0
-Accepted file = readOutcome file ≡ answered (reading file)
-
--- "a marking is legal when it has one byte a choice and none above 2": 0 open, 1 taken, 2 left
-pub record LegalMarking (file plan : List ℕ) : Type 0 where
-  pub size : length plan ≡ choiceCount (tableOf file .variables)
-  pub marks : (i : ℕ) → i < length plan → getD plan i 0 ≤ 2
-
--- Line i is open
-abbrev pub Open : (plan : List ℕ) → (i : ℕ) → Type 0
-Open plan i = (i < length plan) × (getD plan i 0 ≡ 0)
-
--- "A way of settling a plan's open lines, or completion, is a full plan with each open line made taken or left and every other mark kept"
-pub record Completion (plan way : List ℕ) : Type 0 where
-  pub size : length way ≡ length plan
-  pub settled : (i : ℕ) → Open plan i → (getD way i 0 ≡ 1) ⊎ (getD way i 0 ≡ 2)
-  pub kept : (i : ℕ) → i < length plan → (getD plan i 0 ≡ 0 → ⊥) → getD way i 0 ≡ getD plan i 0
-
--- "It passes when its score does", the score counted afresh: "100 times the score is more than p times B"
-abbrev pub Passing : (file : List ℕ) → (percent : ℕ) → (way : List ℕ) → Type 0
-Passing file percent way = percent * scale (tableOf file) < 100 * score (tableOf file) way
-
--- "no way of settling the open lines passes"
-abbrev pub NonePasses : (file plan : List ℕ) → (percent : ℕ) → Type 0
-NonePasses file plan percent = (way : List ℕ) → Completion plan way → Passing file percent way → ⊥
-
--- "no passing way leaves it"; a way "leaves a line when that line's byte is 2"
-abbrev pub NoneLeaves : (file plan : List ℕ) → (percent i : ℕ) → Type 0
-NoneLeaves file plan percent i =
-    (way : List ℕ) → Completion plan way → Passing file percent way → getD way i 0 ≡ 2 → ⊥
+use Rattle.theorems.specs.Plans.{Accepted, LegalMarking, Open, NonePasses, NoneLeaves}
 
 -- What demand 3 says of the sweep's answer and of the drops that it writes
 pub record SweepHolds (file plan : List ℕ) (answer : SweepAnswer) (drops : List ℕ) : Type 0 where
@@ -60,11 +29,17 @@ pub record SweepHolds (file plan : List ℕ) (answer : SweepAnswer) (drops : Lis
   -- "and for any other line 0"
   pub otherLine : (i : ℕ) → i < length plan → (getD plan i 0 ≡ 0 → ⊥) → getD drops i 0 ≡ 0
 
--- What demand 3 says of the filter's answer and of the plan that it writes
-pub record FilterHolds (file plan : List ℕ) (percent : ℕ) (answer : FilterAnswer) (written : List ℕ) : Type 0 where
+-- The answer 31
+abbrev pub none-passes : FilterAnswer
+none-passes = Refused (record { number = 31; place = 0 })
+
+-- What demand 3 says of the filter's answer and of the plan that it writes over what the buffer held
+pub record FilterHolds (file plan : List ℕ) (percent : ℕ) (held : List ℕ) (answer : FilterAnswer) (written : List ℕ) : Type 0 where
   pub size : length written ≡ length plan
   -- "the filter returns 31 exactly when no way of settling the open lines passes"
-  pub refuses : (answer ≡ Refused (record { number = 31; place = 0 })) ↔ NonePasses file plan percent
+  pub refuses : (answer ≡ none-passes) ↔ NonePasses file plan percent
+  -- and, of demand 1, "a turned-away request leaves the plan and the drops as they were"
+  pub leaves : answer ≡ none-passes → written ≡ held
   -- "Otherwise the plan it writes has an open line taken exactly when no passing way leaves it"
   pub takes : (NonePasses file plan percent → ⊥) → (i : ℕ) → Open plan i → (getD written i 0 ≡ 1) ↔ NoneLeaves file plan percent i
   -- "and every other mark as it was handed in"
@@ -88,4 +63,4 @@ Demand3 =
     length held ≡ length plan →
     filterOf answer written ≡ filterOutcome file plan percent (length held) →
     written ≡ filterBuffer file plan percent held →
-    FilterHolds file plan percent answer written)
+    FilterHolds file plan percent held answer written)

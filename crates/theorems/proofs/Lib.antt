@@ -1,0 +1,4 @@
+-- The demands of the briefing, proved.
+pub mod Completing
+pub mod Demanded3
+pub mod Demanded2

@@ -1,0 +1,6 @@
+-- The demands of the briefing, each one statement, and the words that they are put in.
+pub mod Plans
+pub mod Reasons
+pub mod Demand1
+pub mod Demand2
+pub mod Demand3

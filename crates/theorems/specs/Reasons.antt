@@ -1,0 +1,182 @@
+-- Document 01, "Turned away", row by row: what is wrong with a request, and at which place. Nothing is looked for here: a row says of any place whether
+-- the request is wrong there.
+use Prim.Native.Nat.{ℕ, _+_, _*_, _%_, _^_, _≤_, _<_}
+use mathlib.Core.Path.{_≡_}
+use mathlib.Core.Bool.{Bool, true}
+use mathlib.Core.Logic.{_⊎_}
+use mathlib.Core.List.{List, [], _∷_, _++_}
+use lib.ListN.{length, getD, take}
+use Rattle.diagram.specs.Words.{wordAt, kind, fieldP, fieldQ, fieldR}
+use Rattle.diagram.specs.Table.{choice, chance, Record, Table, tableOf, variableCount, recordCount, recordAt, choiceCount, scaleOf}
+use Rattle.diagram.specs.Score.{truth}
+use Rattle.theorems.specs.Plans.{NonePasses, NoCandidate}
+
+-- All that can come with a request; a service looks at what it takes
+pub record Request : Type 0 where
+  pub file : List ℕ
+  pub plan : List ℕ
+  pub percent : ℕ
+  pub kits : ℕ
+  -- the written buffer's length
+  pub size : ℕ
+
+-- The rows of the table. 22 is two of them: `openMark` is the score's, "for the score also an open byte".
+pub data Reason : Type 0 where
+  tableLength : Reason
+  headingWord : Reason
+  wordCount : Reason
+  variableWord : Reason
+  choiceLimit : Reason
+  scaleLimit : Reason
+  recordWord : Reason
+  notMonotone : Reason
+  planLength : Reason
+  planMark : Reason
+  openMark : Reason
+  percentLimit : Reason
+  kitsLimit : Reason
+  bufferLength : Reason
+  noWayPasses : Reason
+  noCandidate : Reason
+
+-- The number that a row returns
+unfoldable pub numberOf : Reason → ℕ
+numberOf tableLength = 11
+numberOf headingWord = 12
+numberOf wordCount = 13
+numberOf variableWord = 14
+numberOf choiceLimit = 15
+numberOf scaleLimit = 16
+numberOf recordWord = 17
+numberOf notMonotone = 18
+numberOf planLength = 21
+numberOf planMark = 22
+numberOf openMark = 22
+numberOf percentLimit = 23
+numberOf kitsLimit = 24
+numberOf bufferLength = 25
+numberOf noWayPasses = 31
+numberOf noCandidate = 32
+
+-- ---------------------------------------------------------------------------
+-- Right words
+
+-- "1 heading | V, variables, 1 to 60 | N, records, 1 to 254 | 0"
+pub record HeadingWord (w : ℕ) : Type 0 where
+  pub kind-is : kind w ≡ 1
+  pub variables : (1 ≤ fieldP w) × (fieldP w ≤ 60)
+  pub records : (1 ≤ fieldQ w) × (fieldQ w ≤ 254)
+  pub rest : fieldR w ≡ 0
+
+-- "2 choice | its position | 0 | 0"
+pub record ChoiceWord (position w : ℕ) : Type 0 where
+  pub kind-is : kind w ≡ 2
+  pub place : fieldP w ≡ position
+  pub zeros : (fieldQ w ≡ 0) × (fieldR w ≡ 0)
+
+-- "3 chance | its position | a, 0 to b | b, 1 to 1,000"
+pub record ChanceWord (position w : ℕ) : Type 0 where
+  pub kind-is : kind w ≡ 3
+  pub place : fieldP w ≡ position
+  pub share : fieldQ w ≤ fieldR w
+  pub limits : (1 ≤ fieldR w) × (fieldR w ≤ 1000)
+
+-- "Both children have smaller node numbers, and a child that is a record has a larger variable position": node n as a child of record k, which stands at
+-- a position; "record k, from 0, is node k+2"
+pub record Child (records : List Record) (k position n : ℕ) : Type 0 where
+  pub smaller : n < k + 2
+  pub later : (j : ℕ) → n ≡ j + 2 → position < recordAt records j .position
+
+-- "4 record | variable position | hi node | lo node", of record k
+pub record RecordWord (v : ℕ) (records : List Record) (k w : ℕ) : Type 0 where
+  pub kind-is : kind w ≡ 4
+  pub place : fieldP w < v
+  pub hi : Child records k (fieldP w) (fieldQ w)
+  pub lo : Child records k (fieldP w) (fieldR w)
+
+-- "at every choice record, reachable or not, each settling of all variables that leads from lo to true also leads from hi to true": at record k
+abbrev pub MonotoneAt : Table → ℕ → Type 0
+MonotoneAt t k =
+    getD (t .variables) (recordAt (t .records) k .position) (chance 0 1) ≡ choice →
+    (s : List Bool) → length s ≡ length (t .variables) →
+    truth (t .records) s (recordAt (t .records) k .lo) ≡ true →
+    truth (t .records) s (recordAt (t .records) k .hi) ≡ true
+
+-- ---------------------------------------------------------------------------
+-- The rows
+
+-- Place i is word 1 + p, of the variable at position p
+abbrev pub AtVariable : (file : List ℕ) → (i p : ℕ) → Type 0
+AtVariable file i p = (p < variableCount file) × (i ≡ 1 + p)
+
+-- Place i is word 1 + V + k, of record k
+abbrev pub AtRecord : (file : List ℕ) → (i k : ℕ) → Type 0
+AtRecord file i k = (k < recordCount file) × (i ≡ 1 + variableCount file + k)
+
+-- Whether a request is wrong at a place, in the words of each row. "Places in a file count words from the heading, which is 0."
+unfoldable pub Wrong : Request → Reason → (place : ℕ) → Type 0
+-- 11: "table length under 4, over 1,260 or no multiple of 4"
+Wrong q tableLength i = (i ≡ 0) × ((length (q .file) < 4) ⊎ ((1260 < length (q .file)) ⊎ (length (q .file) % 4 ≡ 0 → ⊥)))
+-- 12: "heading's kind or a field wrong"
+Wrong q headingWord i = (i ≡ 0) × (HeadingWord (wordAt (q .file) 0) → ⊥)
+-- 13: "length is not 4 times (1 + V + N)"
+Wrong q wordCount i = (i ≡ 0) × (length (q .file) ≡ 4 * (1 + variableCount (q .file) + recordCount (q .file)) → ⊥)
+-- 14: "a variable word's kind or a field wrong"
+Wrong q variableWord i =
+    (p : ℕ) × AtVariable (q .file) i p × ((ChoiceWord p (wordAt (q .file) i) ⊎ ChanceWord p (wordAt (q .file) i)) → ⊥)
+-- 15: "more than 20 choices", counted up to this word
+Wrong q choiceLimit i = (p : ℕ) × AtVariable (q .file) i p × (20 < choiceCount (take (1 + p) (tableOf (q .file) .variables)))
+-- 16: "product of b above 2^56", taken up to this word
+Wrong q scaleLimit i = (p : ℕ) × AtVariable (q .file) i p × (2 ^ 56 < scaleOf (take (1 + p) (tableOf (q .file) .variables)))
+-- 17: "a record's kind, position or child wrong"
+Wrong q recordWord i =
+    (k : ℕ) × AtRecord (q .file) i k × (RecordWord (variableCount (q .file)) (tableOf (q .file) .records) k (wordAt (q .file) i) → ⊥)
+-- 18: "not monotone"
+Wrong q notMonotone i = (k : ℕ) × AtRecord (q .file) i k × (MonotoneAt (tableOf (q .file)) k → ⊥)
+-- 21: "plan length is not the number of choices"
+Wrong q planLength i = (i ≡ 0) × (length (q .plan) ≡ choiceCount (tableOf (q .file) .variables) → ⊥)
+-- 22: "a plan byte above 2", by its index
+Wrong q planMark i = (i < length (q .plan)) × (2 < getD (q .plan) i 0)
+-- 22: "for the score also an open byte"
+Wrong q openMark i = (i < length (q .plan)) × ((2 < getD (q .plan) i 0) ⊎ (getD (q .plan) i 0 ≡ 0))
+-- 23: "percent above 100"
+Wrong q percentLimit i = (i ≡ 0) × (100 < q .percent)
+-- 24: "kits above 20"
+Wrong q kitsLimit i = (i ≡ 0) × (20 < q .kits)
+-- 25: "the written buffer's length is not the number of choices"
+Wrong q bufferLength i = (i ≡ 0) × (q .size ≡ choiceCount (tableOf (q .file) .variables) → ⊥)
+-- 31: "filter: no completion passes"
+Wrong q noWayPasses i = (i ≡ 0) × NonePasses (q .file) (q .plan) (q .percent)
+-- 32: "search: no candidate"
+Wrong q noCandidate i = (i ≡ 0) × NoCandidate (q .file) (q .plan) (q .kits) (q .percent)
+
+-- ---------------------------------------------------------------------------
+-- "Checks run in this table's order, each over the whole file before the next; those a service has no input for are skipped."
+
+-- The rows of every service, on the file
+unfoldable pub fileReasons : List Reason
+fileReasons =
+    tableLength ∷ headingWord ∷ wordCount ∷ variableWord ∷ choiceLimit ∷ scaleLimit ∷ recordWord ∷ notMonotone ∷ []
+
+-- Those of the score, the sweep, the filter and the search
+unfoldable pub scoreReasons : List Reason
+scoreReasons = fileReasons ++ planLength ∷ openMark ∷ []
+
+unfoldable pub sweepReasons : List Reason
+sweepReasons = fileReasons ++ planLength ∷ planMark ∷ bufferLength ∷ []
+
+unfoldable pub filterReasons : List Reason
+filterReasons = fileReasons ++ planLength ∷ planMark ∷ percentLimit ∷ bufferLength ∷ noWayPasses ∷ []
+
+unfoldable pub searchReasons : List Reason
+searchReasons = fileReasons ++ planLength ∷ planMark ∷ percentLimit ∷ kitsLimit ∷ bufferLength ∷ noCandidate ∷ []
+
+-- A request is turned away with the number of the first row that finds it wrong at some place, and with the first such place
+pub data TurnedAway (q : Request) : List Reason → (number place : ℕ) → Type 0 where
+  at-first : {r : Reason} {rs : List Reason} {i : ℕ} → Wrong q r i → ((j : ℕ) → j < i → Wrong q r j → ⊥) → TurnedAway q (r ∷ rs) (numberOf r) i
+  further-on : {r : Reason} {rs : List Reason} {n i : ℕ} → ((j : ℕ) → Wrong q r j → ⊥) → TurnedAway q rs n i → TurnedAway q (r ∷ rs) n i
+
+-- No row finds it wrong at any place
+pub data LetThrough (q : Request) : List Reason → Type 0 where
+  no-row : LetThrough q []
+  right : {r : Reason} {rs : List Reason} → ((j : ℕ) → Wrong q r j → ⊥) → LetThrough q rs → LetThrough q (r ∷ rs)
