@@ -24,6 +24,7 @@ use Rattle.diagram.proofs.Checked.{checked-passes, checked-end, read-answers}
 use Rattle.diagram.proofs.Rising.{Completes, complete, takes, leaves-open, keeps}
 use Rattle.rule.proofs.Order.{Before, higher, fewer, first, ranks}
 use Rattle.rule.proofs.First.{best-first, best-some}
+use Rattle.theorems.proofs.Answers.{score-is, search-refused, found-is, found-not-refused}
 use Rattle.theorems.proofs.Completing.{completion-completes, completes-completion}
 use Rattle.sweep.proofs.Requesting.{search-answered}
 use Rattle.theorems.proofs.Demanded3.{legal-request}
@@ -78,41 +79,11 @@ ranks-before s {p} {c} {d} k l h = go (ranks h)
     go (first e f x) = inr (e, inr (f, first-line k l x))
 
 -- ---------------------------------------------------------------------------
--- The answer and the buffer
-
--- an answer with its buffer that stands for a score, visits and a plan
-found-is : (answer : SearchAnswer) (plan : List ℕ) {x v : ℕ} {q : List ℕ} → searchOf answer plan ≡ answered (record { score = x; visits = v; plan = q }) → (answer ≡ Found (record { score = x; visits = v })) × (plan ≡ q)
-unfolding searchOf
-found-is (Found f) plan {x} {v} {q} e =
-    let same : _≡_ {A = Searching} (record { score = f .score; visits = f .visits; plan = plan }) (record { score = x; visits = v; plan = q }) = cc in
-    (ap (λ (a : Searching). Found (record { score = a .score; visits = a .visits })) same, ap (λ (a : Searching). a .plan) same)
-found-is (Refused r) plan e =
-    let z : _≡_ {A = ℕ} 0 1 = cc in
-    absurd (omega arith)
-
--- an answer that stands for a refusal
-refused-is : (answer : SearchAnswer) (plan : List ℕ) {n i : ℕ} → searchOf answer plan ≡ refused n i → answer ≡ Refused (record { number = n; place = i })
-unfolding searchOf
-refused-is (Found f) plan e =
-    let z : _≡_ {A = ℕ} 0 1 = cc in
-    absurd (omega arith)
-refused-is (Refused r) plan {n} {i} e =
-    let a : r .number ≡ n = cc in
-    let b : r .place ≡ i = cc in
-    rw (← a, ← b) refl
-
--- no answer is a finding and a refusal
-found-not-refused : {f : Finding} {r : Refusal} → Found f ≡ Refused r → ⊥
-found-not-refused e =
-    let z : _≡_ {A = ℕ} 0 1 = cc in
-    omega arith
-
--- ---------------------------------------------------------------------------
 -- The search
 
 module _ (s p : List ℕ) (budget percent : ℕ) where
   -- a candidate finishes the plan, and its test holds
-  candidate-test : {c : List ℕ} → Candidate s p budget percent c → Completes p c × (isCandidate (tableOf s) budget percent c ≡ true)
+  pub candidate-test : {c : List ℕ} → Candidate s p budget percent c → Completes p c × (isCandidate (tableOf s) budget percent c ≡ true)
   unfolding isCandidate cost passing passes
   candidate-test {c} k =
       (completion-completes p c (k .finishes), and-true-both _ _ (le-leb _ _ (k .within)) (lt-ltb _ _ (k .passes)))
@@ -125,7 +96,7 @@ module _ (s p : List ℕ) (budget percent : ℕ) where
       record { finishes = completes-completion k; within = leb-true _ _ (r .0); passes = ltb-true _ _ (r .1) }
 
   -- what is demanded where there is no best plan
-  none-holds : bestPlan (tableOf s) budget percent p ≡ none → (held : List ℕ) → SearchHolds s p budget percent held no-candidate held
+  pub none-holds : bestPlan (tableOf s) budget percent p ≡ none → (held : List ℕ) → SearchHolds s p budget percent held no-candidate held
   none-holds e held =
       record {
         answers = inr refl;
@@ -138,7 +109,7 @@ module _ (s p : List ℕ) (budget percent : ℕ) where
       }
 
   -- the best plan is the first candidate
-  best-candidate : (b : List ℕ) → bestPlan (tableOf s) budget percent p ≡ some b → FirstCandidate s p budget percent b
+  pub best-candidate : (b : List ℕ) → bestPlan (tableOf s) budget percent p ≡ some b → FirstCandidate s p budget percent b
   best-candidate b e =
       let best = best-first (tableOf s) budget percent p b e in
       record {
@@ -166,11 +137,11 @@ module _ (s p : List ℕ) (budget percent : ℕ) where
     where
       go : (c : Option (List ℕ)) → bestPlan (tableOf s) budget percent p ≡ c → SearchHolds s p budget percent held answer plan
       go none q =
-          let is = refused-is answer plan (rw (q, searching) at e) in
+          let is = search-refused plan answer (rw (q, searching) at e) in
           let same : plan ≡ held = rw (q, searching) at b in
           rw (is, same) (none-holds q held)
       go (some c) q =
-          let is = found-is answer plan (rw (q, searching) at e) in
+          let is = found-is plan answer (rw (q, searching) at e) in
           rw (is .0, is .1) (some-holds c q _ held)
 
 -- ---------------------------------------------------------------------------
@@ -184,14 +155,6 @@ full-marks p s h = no-place (λ i. ltb 2 (getD p i 0) || eqb (getD p i 0) 0) 0 (
     settled : (m : ℕ) → (m ≡ 1) ⊎ (m ≡ 2) → (ltb 2 m || eqb m 0) ≡ false
     settled m (inl e) = rw e refl
     settled m (inr e) = rw e refl
-
--- an answer that stands for a score
-score-is : (answer : ScoreAnswer) {x : ℕ} → outcomeOf answer ≡ answered x → answer ≡ scores.Score x
-unfolding outcomeOf
-score-is (scores.Score y) e = ap scores.Score (cc)
-score-is (scores.Refused r) e =
-    let z : _≡_ {A = ℕ} 0 1 = cc in
-    absurd (omega arith)
 
 module _ (s p : List ℕ) (read : Accepted s) (full : FullPlan s p) where
   -- what the score answers to a full plan of an accepted table

@@ -31,6 +31,7 @@ use Rattle.theorems.specs.Plans.{Accepted, LegalMarking, Open, NonePasse
 use Rattle.theorems.specs.Demand3.{none-passes, SweepHolds, FilterHolds, Demand3}
 use Rattle.sweep.specs.Request.{requestOutcome}
 use Rattle.sweep.proofs.Requesting.{request-accepted, sweep-answered, filter-answered}
+use Rattle.theorems.proofs.Answers.{bound-is, filter-refused, forced-is, forced-not-refused}
 use Rattle.theorems.proofs.Completing.{open-test, test-open, closed-test, no-way-passes, no-way-leaves}
 
 -- ---------------------------------------------------------------------------
@@ -57,16 +58,6 @@ module _ (s p : List ℕ) (read : Accepted s) (legal : LegalMarking s p) (size :
 
 -- ---------------------------------------------------------------------------
 -- The sweep
-
--- an answer with its buffer that stands for a top and drops
-bound-is : (answer : SweepAnswer) (drops : List ℕ) {x : ℕ} {ds : List ℕ} → sweepOf answer drops ≡ answered (record { upperBound = x; derivatives = ds }) → (answer ≡ sweep.Bound x) × (drops ≡ ds)
-unfolding sweepOf
-bound-is (sweep.Bound y) drops {x} {ds} e =
-    let q : _≡_ {A = Sweeping} (record { upperBound = y; derivatives = drops }) (record { upperBound = x; derivatives = ds }) = cc in
-    (ap (λ (a : Sweeping). sweep.Bound (a .upperBound)) q, ap (λ (a : Sweeping). a .derivatives) q)
-bound-is (sweep.Refused r) drops e =
-    let z : _≡_ {A = ℕ} 0 1 = cc in
-    absurd (omega arith)
 
 module _ (s p : List ℕ) where
   -- the drop written for a line
@@ -97,33 +88,6 @@ module _ (s p : List ℕ) where
 
 -- ---------------------------------------------------------------------------
 -- The filter
-
--- an answer with its buffer that stands for a number of lines and a plan
-forced-is : (answer : FilterAnswer) (plan : List ℕ) {n : ℕ} {q : List ℕ} → filterOf answer plan ≡ answered (record { forced = n; plan = q }) → (answer ≡ filter.Forced n) × (plan ≡ q)
-unfolding filterOf
-forced-is (filter.Forced m) plan {n} {q} e =
-    let same : _≡_ {A = Filtering} (record { forced = m; plan = plan }) (record { forced = n; plan = q }) = cc in
-    (ap (λ (a : Filtering). filter.Forced (a .forced)) same, ap (λ (a : Filtering). a .plan) same)
-forced-is (filter.Refused r) plan e =
-    let z : _≡_ {A = ℕ} 0 1 = cc in
-    absurd (omega arith)
-
--- an answer that stands for a refusal
-refused-is : (answer : FilterAnswer) (plan : List ℕ) {n i : ℕ} → filterOf answer plan ≡ refused n i → answer ≡ filter.Refused (record { number = n; place = i })
-unfolding filterOf
-refused-is (filter.Forced m) plan e =
-    let z : _≡_ {A = ℕ} 0 1 = cc in
-    absurd (omega arith)
-refused-is (filter.Refused r) plan {n} {i} e =
-    let a : r .number ≡ n = cc in
-    let b : r .place ≡ i = cc in
-    rw (← a, ← b) refl
-
--- no answer is a number of lines and a refusal
-forced-not-refused : {n : ℕ} {r : Refusal} → filter.Forced n ≡ filter.Refused r → ⊥
-forced-not-refused e =
-    let z : _≡_ {A = ℕ} 0 1 = cc in
-    omega arith
 
 -- two tests that agree below n hold of as many numbers
 count-same : (f g : ℕ → Bool) (n : ℕ) → ((i : ℕ) → i < n → f i ≡ g i) → countOf f n ≡ countOf g n
@@ -222,11 +186,11 @@ module _ (s p : List ℕ) (percent : ℕ) where
     where
       go : (c : Bool) → noneOf (passing (tableOf s) percent) (completions p) ≡ c → FilterHolds s p percent held answer plan
       go true q =
-          let is = refused-is answer plan (rw q at e) in
+          let is = filter-refused plan answer (rw q at e) in
           let same : plan ≡ held = rw q at b in
           rw (is, same) (refuses-holds (no-way-passes s percent p .0 q) held fits)
       go false q =
-          let is = forced-is answer plan (rw q at e) in
+          let is = forced-is plan answer (rw q at e) in
           rw (is .0, is .1) (forces-holds (λ n. false≢true (sym q ∙ no-way-passes s percent p .1 n)) held)
 
 -- ---------------------------------------------------------------------------
@@ -237,7 +201,7 @@ pub demand-3 : Demand3
 unfolding Demand3 filterBuffer
 demand-3 s p read legal = (
   λ held drops answer fits e b.
-      let is = bound-is answer drops (e ∙ sweep-answers s p read legal (length held) fits) in
+      let is = bound-is drops answer (e ∙ sweep-answers s p read legal (length held) fits) in
       rw (is .0, is .1) (sweep-holds s p (read-passed s _ read)),
   λ percent held plan answer h fits e b.
       let is = filter-answers s p read legal (length held) fits percent h in

@@ -1,4 +1,8 @@
 -- The demands of the briefing, proved.
 pub mod Completing
+pub mod Answers
+pub mod Saying
+pub mod Rows
 pub mod Demanded3
 pub mod Demanded2
+pub mod Demanded1
