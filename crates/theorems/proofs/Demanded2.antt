@@ -25,6 +25,7 @@ use Rattle.diagram.proofs.Rising.{Completes, complete, takes, leaves-open, keep
 use Rattle.rule.proofs.Order.{Before, higher, fewer, first, ranks}
 use Rattle.rule.proofs.First.{best-first, best-some}
 use Rattle.theorems.proofs.Answers.{score-is, search-refused, found-is, found-not-refused}
+use Rattle.theorems.proofs.Deciding.{accepted-read}
 use Rattle.theorems.proofs.Completing.{completion-completes, completes-completion}
 use Rattle.sweep.proofs.Requesting.{search-answered}
 use Rattle.theorems.proofs.Demanded3.{legal-request}
@@ -36,8 +37,9 @@ use Rattle.search.specs.declared.answer.Finding.{Finding}
 use Rattle.search.specs.declared.answer.SearchAnswer.{SearchAnswer}
 use Rattle.search.specs.declared.answer.SearchAnswer.the-variants.{Found, Refused}
 use Rattle.search.specs.Answer.{searchOf}
-use Rattle.theorems.specs.Plans.{Accepted, FullPlan, Candidate}
-use Rattle.theorems.specs.Demand2.{weightedCount, TakesFirst, RanksBefore, FirstCandidate, no-candidate, SearchHolds, Demand2}
+use Rattle.theorems.specs.Plans.{FullPlan, Candidate}
+use Rattle.theorems.specs.Reasons.{Accepted}
+use Rattle.theorems.specs.Demand2.{weightedCount, TakesFirst, RanksBefore, FirstCandidate, refused-32, SearchHolds, Demand2}
 
 -- ---------------------------------------------------------------------------
 -- The ranking
@@ -96,7 +98,7 @@ module _ (s p : List ℕ) (budget percent : ℕ) where
       record { finishes = completes-completion k; within = leb-true _ _ (r .0); passes = ltb-true _ _ (r .1) }
 
   -- what is demanded where there is no best plan
-  pub none-holds : bestPlan (tableOf s) budget percent p ≡ none → (held : List ℕ) → SearchHolds s p budget percent held no-candidate held
+  pub none-holds : bestPlan (tableOf s) budget percent p ≡ none → (held : List ℕ) → SearchHolds s p budget percent held refused-32 held
   none-holds e held =
       record {
         answers = inr refl;
@@ -105,7 +107,7 @@ module _ (s p : List ℕ) (budget percent : ℕ) where
           λ q c k. let r = candidate-test k in best-some (tableOf s) budget percent p c (r .0) (r .1) e,
           λ n. refl,
         );
-        leaves = λ q. refl;
+        untouched = λ q. refl;
       }
 
   -- the best plan is the first candidate
@@ -127,7 +129,7 @@ module _ (s p : List ℕ) (budget percent : ℕ) where
         answers = inl (_, refl);
         finds = λ f q. (best, cc);
         refuses = (λ q. absurd (found-not-refused q), λ n. absurd (n b (best .candidate)));
-        leaves = λ q. absurd (found-not-refused q);
+        untouched = λ q. absurd (found-not-refused q);
       }
 
   -- the search's answer and buffer, by whether there is one
@@ -156,20 +158,20 @@ full-marks p s h = no-place (λ i. ltb 2 (getD p i 0) || eqb (getD p i 0) 0) 0 (
     settled m (inl e) = rw e refl
     settled m (inr e) = rw e refl
 
+-- a score is the weighted count
+counted : (s p : List ℕ) → score (tableOf s) p ≡ weightedCount s p
+unfolding score scoreFrom total
+counted s p = refl
+
 module _ (s p : List ℕ) (read : Accepted s) (full : FullPlan s p) where
   -- what the score answers to a full plan of an accepted table
   scored : scoreOutcome s p ≡ answered (score (tableOf s) p)
   unfolding scoreOutcome scoreChecks
   scored =
-      read-answers s _ _ _ read
+      read-answers s _ _ _ (accepted-read s read)
       ∙ checked-passes _ _ _ s (length-fits p s (full .size))
       ∙ checked-passes _ _ _ s (full-marks p s (full .marks))
       ∙ checked-end _ s
-
-  -- a score is the weighted count
-  counted : score (tableOf s) p ≡ weightedCount s p
-  unfolding score scoreFrom total
-  counted = refl
 
 -- ---------------------------------------------------------------------------
 -- Both
@@ -178,7 +180,8 @@ module _ (s p : List ℕ) (read : Accepted s) (full : FullPlan s p) where
 pub demand-2 : Demand2
 unfolding Demand2 searchBuffer
 demand-2 s read = (
-  λ p answer full e. score-is answer (e ∙ scored s p read full ∙ ap answered (counted s p read full)),
+  counted s,
+  λ p answer full e. score-is answer (e ∙ scored s p read full ∙ ap answered (counted s p)),
   λ p budget percent held plan answer legal kits h fits e b.
       let is = search-answered s p (length held) percent budget _ (legal-request s p read legal (length held) fits budget percent kits h) in
       search-holds s p budget percent held plan answer (e ∙ is) (b ∙ rw is refl),

@@ -27,11 +27,13 @@ use Rattle.sweep.specs.declared.answer.SweepAnswer.the-variants as sweep
 use Rattle.sweep.specs.declared.answer.FilterAnswer.{FilterAnswer}
 use Rattle.sweep.specs.declared.answer.FilterAnswer.the-variants as filter
 use Rattle.sweep.specs.Answer.{sweepOf, filterOf}
-use Rattle.theorems.specs.Plans.{Accepted, LegalMarking, Open, NonePasses, NoneLeaves}
-use Rattle.theorems.specs.Demand3.{none-passes, SweepHolds, FilterHolds, Demand3}
+use Rattle.theorems.specs.Plans.{LegalMarking, Open, NonePasses, NoneLeaves}
+use Rattle.theorems.specs.Reasons.{Accepted}
+use Rattle.theorems.specs.Demand3.{refused-31, SweepHolds, FilterHolds, Demand3}
 use Rattle.sweep.specs.Request.{requestOutcome}
 use Rattle.sweep.proofs.Requesting.{request-accepted, sweep-answered, filter-answered}
 use Rattle.theorems.proofs.Answers.{bound-is, filter-refused, forced-is, forced-not-refused}
+use Rattle.theorems.proofs.Deciding.{accepted-read}
 use Rattle.theorems.proofs.Completing.{open-test, test-open, closed-test, no-way-passes, no-way-leaves}
 
 -- ---------------------------------------------------------------------------
@@ -46,7 +48,7 @@ module _ (s p : List ℕ) (read : Accepted s) (legal : LegalMarking s p) (size :
   -- no check turns such a request away
   pub legal-request : (budget percent : ℕ) → budget ≤ 20 → percent ≤ 100 → requestOutcome s p budget percent size ≡ answered (reading s)
   legal-request budget percent b h =
-      sym (request-accepted s p budget percent size read (legal .size) (marks-fit p [] (legal .marks)) h b (fits ∙ legal .size))
+      sym (request-accepted s p budget percent size (accepted-read s read) (legal .size) (marks-fit p [] (legal .marks)) h b (fits ∙ legal .size))
 
   -- what the sweep answers to a legal marking of an accepted table
   sweep-answers : sweepOutcome s p size ≡ answered (record { upperBound = upperBound (tableOf s) p; derivatives = derivatives (tableOf s) p })
@@ -155,12 +157,12 @@ module _ (s p : List ℕ) (percent : ℕ) where
           cond-one (isForced i) _ (eqb-true _ 0 (r .0)) (sym (mark-at i l) ∙ eqb-true _ 1 (r .1))
 
   -- where no way passes
-  refuses-holds : NonePasses s p percent → (held : List ℕ) → length held ≡ length p → FilterHolds s p percent held none-passes held
+  refuses-holds : NonePasses s p percent → (held : List ℕ) → length held ≡ length p → FilterHolds s p percent held refused-31 held
   refuses-holds no-way held fits =
       record {
         size = fits;
         refuses = (λ e. no-way, λ n. refl);
-        leaves = λ e. refl;
+        untouched = λ e. refl;
         takes = λ f. absurd (f no-way);
         keeps = λ f. absurd (f no-way);
         counts = λ f. absurd (f no-way);
@@ -173,7 +175,7 @@ module _ (s p : List ℕ) (percent : ℕ) where
       record {
         size = sequence-length _ 0 (length p);
         refuses = (λ e. absurd (forced-not-refused e), λ n. absurd (some n));
-        leaves = λ e. absurd (forced-not-refused e);
+        untouched = λ e. absurd (forced-not-refused e);
         takes = λ f. takes-line;
         keeps = λ f. keeps-line;
         counts = λ f. ap filter.Forced counts-lines;
@@ -202,7 +204,7 @@ unfolding Demand3 filterBuffer
 demand-3 s p read legal = (
   λ held drops answer fits e b.
       let is = bound-is drops answer (e ∙ sweep-answers s p read legal (length held) fits) in
-      rw (is .0, is .1) (sweep-holds s p (read-passed s _ read)),
+      rw (is .0, is .1) (sweep-holds s p (read-passed s _ (accepted-read s read))),
   λ percent held plan answer h fits e b.
       let is = filter-answers s p read legal (length held) fits percent h in
       filter-holds s p percent held plan answer fits (e ∙ is) (b ∙ rw is refl),

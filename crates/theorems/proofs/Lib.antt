@@ -3,6 +3,7 @@ pub mod Completing
 pub mod Answers
 pub mod Saying
 pub mod Rows
+pub mod Deciding
 pub mod Demanded3
 pub mod Demanded2
 pub mod Demanded1

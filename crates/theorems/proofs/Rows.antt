@@ -11,15 +11,18 @@ use mathlib.Core.Option.{Option, none, some}
 use mathlib.Core.List.{List, [], _∷_, _++_, map}
 use lib.ListN.{length, getD, take}
 use lib.Dec.{eqb, ltb}
-use borrow.Author.Tests.{ltb-true, lt-ltb, eqb-true, eq-eqb}
+use borrow.Author.Tests.{ltb-true, lt-ltb, eqb-true, eq-eqb, not-false}
 use Rattle.diagram.specs.Words.{wordAt, kind, fieldP, fieldQ, fieldR}
-use Rattle.diagram.specs.Table.{Variable, choice, chance, Record, Table, tableOf, variableCount, recordCount, recordAt, isChoice, choiceCount, scaleOf}
+use Rattle.diagram.specs.Table.{Variable, choice, chance, Record, Table, tableOf, variableCount, recordCount, recordAt, isChoice, choiceCount, scaleOf, scale}
 use Rattle.diagram.specs.Score.{truth, assignments, every, implies}
 use Rattle.diagram.specs.Checks as checks
 use Rattle.diagram.specs.Checks.{Check, placeZero, firstPlace, isHeading, isVariableWord, positionOf, isChild, isRecordWord, isMonotoneAt}
 use Rattle.diagram.proofs.Every.{both, and-true-both, every-append, every-map, each-assignment, implied, implication}
 use Rattle.diagram.proofs.Places.{none-at}
-use Rattle.theorems.specs.Reasons.{Request, Reason, tableLength, headingWord, wordCount, variableWord, choiceLimit, scaleLimit, recordWord, notMonotone, planLength, planMark, openMark, percentLimit, kitsLimit, bufferLength, numberOf, HeadingWord, ChoiceWord, ChanceWord, Child, RecordWord, MonotoneAt, Wrong}
+use Rattle.diagram.proofs.Checked.{Passed}
+use Rattle.reading.proofs.Shape.{none-passes, shaped-record-word}
+use Rattle.reading.proofs.Accepted.{passed-choices, passed-scale}
+use Rattle.theorems.specs.Reasons.{Request, Reason, jobWord, tableLength, headingWord, wordCount, variableWord, choiceLimit, scaleLimit, recordWord, notMonotone, planLength, planMark, fullPlanMark, percentLimit, budgetLimit, bufferLength, JobWord, HeadingWord, ChoiceWord, ChanceWord, Child, RecordWord, MonotoneAt, Wrong, WholeTable}
 use Rattle.theorems.proofs.Saying.{Says, says-less, says-most, says-same, in-words, says-not, says-both, says-either, says-then}
 
 -- ---------------------------------------------------------------------------
@@ -112,6 +115,12 @@ below n f P says i = (
 
 -- ---------------------------------------------------------------------------
 -- Right words
+
+job-says : (w : ℕ) → Says (eqb (kind w) 5 && eqb (fieldQ w) 0) (JobWord w)
+job-says w =
+    in-words _ (says-both _ _ (says-same (kind w) 5) (says-same (fieldQ w) 0))
+    (λ h. record { kind-is = h .0; zero = h .1 })
+    (λ h. (h .kind-is, h .zero))
 
 heading-says : (w : ℕ) → Says (isHeading w) (HeadingWord w)
 unfolding isHeading
@@ -216,6 +225,10 @@ monotone-says t k =
 -- The rows
 
 module _ (q : Request) where
+  pub row-10 : (input : List ℕ) → wordAt input 0 ≡ q .job → Renders q jobWord (checks.jobFault input)
+  unfolding Wrong checks.jobFault
+  row-10 input e = rw e (at-zero q jobWord _ (says-not _ (job-says (q .job))) (λ i. (λ h. h, λ h. h)))
+
   pub row-11 : Renders q tableLength (checks.lengthFault (q .file))
   unfolding Wrong checks.lengthFault
   row-11 =
@@ -294,10 +307,10 @@ module _ (q : Request) where
       along q planMark _ 0 (length (q .plan))
       (below (length (q .plan)) _ (λ i. 2 < getD (q .plan) i 0) (λ i. says-less 2 (getD (q .plan) i 0)))
 
-  pub row-22-full : Renders q openMark (checks.fullPlanFault (q .plan) (q .file))
+  pub row-22-full : Renders q fullPlanMark (checks.fullPlanFault (q .plan) (q .file))
   unfolding Wrong checks.fullPlanFault
   row-22-full =
-      along q openMark _ 0 (length (q .plan))
+      along q fullPlanMark _ 0 (length (q .plan))
       (below (length (q .plan)) _
       (λ i. (2 < getD (q .plan) i 0) ⊎ (getD (q .plan) i 0 ≡ 0))
       (λ i. says-either _ _ (says-less 2 (getD (q .plan) i 0)) (says-same (getD (q .plan) i 0) 0)))
@@ -306,10 +319,30 @@ module _ (q : Request) where
   unfolding Wrong checks.percentFault
   row-23 = at-zero q percentLimit _ (says-less 100 (q .percent)) (λ i. (λ h. h, λ h. h))
 
-  pub row-24 : Renders q kitsLimit (checks.budgetFault (q .kits) (q .file))
+  pub row-24 : Renders q budgetLimit (checks.budgetFault (q .budget) (q .file))
   unfolding Wrong checks.budgetFault
-  row-24 = at-zero q kitsLimit _ (says-less 20 (q .kits)) (λ i. (λ h. h, λ h. h))
+  row-24 = at-zero q budgetLimit _ (says-less 20 (q .budget)) (λ i. (λ h. h, λ h. h))
 
   pub row-25 : Renders q bufferLength (checks.bufferFault (q .size) (q .file))
   unfolding Wrong checks.bufferFault
   row-25 = at-zero q bufferLength _ (says-not _ (says-same _ _)) (λ i. (λ h. h, λ h. h))
+
+-- ---------------------------------------------------------------------------
+-- A file that no check finds at fault
+
+pub whole-table : {s : List ℕ} → Passed s → WholeTable s
+unfolding checks.headingFault checks.countFault checks.variableFault checks.monotoneFault scale
+whole-table {s} h =
+    record {
+      size = eqb-true _ _ (none-passes _ (h .count));
+      heading = heading-says (wordAt s 0) .0 (none-passes _ (h .heading));
+      variables = λ p l.
+          let at : 1 + p - 1 ≡ p = omega arith in
+          variable-says p (wordAt s (1 + p)) .0 (not-false _ (rw at at (none-at _ 1 (variableCount s) p (h .variables) l)));
+      choices = passed-choices h;
+      scale = passed-scale h;
+      records = λ k l. record-says _ _ k _ .0 (shaped-record-word s (h .records) k l);
+      monotone = λ k l.
+          let at : 1 + variableCount s + k - (1 + variableCount s) ≡ k = omega arith in
+          monotone-says (tableOf s) k .0 (not-false _ (rw at at (none-at _ (1 + variableCount s) (recordCount s) k (h .monotone) l)));
+    }

@@ -17,7 +17,8 @@ use Rattle.search.specs.declared.answer.Finding.{Finding}
 use Rattle.search.specs.declared.answer.SearchAnswer.{SearchAnswer}
 use Rattle.search.specs.declared.answer.SearchAnswer.the-variants.{Found, Refused}
 use Rattle.search.specs.Answer.{searchOf}
-use Rattle.theorems.specs.Plans.{Accepted, LegalMarking, FullPlan, Candidate, NoCandidate}
+use Rattle.theorems.specs.Plans.{LegalMarking, FullPlan, Candidate, NoCandidate}
+use Rattle.theorems.specs.Reasons.{Accepted}
 
 -- "the weighted count of chance outcomes that lead to true": the sum, over all settlings of all chances with the choices as the plan says, of the
 -- products of those whose walk from the root ends in true
@@ -50,27 +51,28 @@ pub record FirstCandidate (file plan : List ℕ) (budget percent : ℕ) (way : L
   pub first : (other : List ℕ) → Candidate file plan budget percent other → (other ≡ way) ⊎ RanksBefore file way other
 
 -- The answer 32
-abbrev pub no-candidate : SearchAnswer
-no-candidate = Refused (record { number = 32; place = 0 })
+abbrev pub refused-32 : SearchAnswer
+refused-32 = Refused (record { number = 32; place = 0 })
 
 -- What demand 2 says of the search's answer and of the plan that it writes over what the buffer held
 pub record SearchHolds (file plan : List ℕ) (budget percent : ℕ) (held : List ℕ) (answer : SearchAnswer) (written : List ℕ) : Type 0 where
   -- the search finds a plan or answers 32
-  pub answers : ((f : Finding) × (answer ≡ Found f)) ⊎ (answer ≡ no-candidate)
+  pub answers : ((f : Finding) × (answer ≡ Found f)) ⊎ (answer ≡ refused-32)
   -- "The plan returned is the first", and the score returned is its score, "with no rounding"
   pub finds : (f : Finding) → answer ≡ Found f → FirstCandidate file plan budget percent written × (f .score ≡ score (tableOf file) written)
   -- "32 is returned if there is no such plan, and only then"
-  pub refuses : (answer ≡ no-candidate) ↔ NoCandidate file plan budget percent
+  pub refuses : (answer ≡ refused-32) ↔ NoCandidate file plan budget percent
   -- and, of demand 1, "a turned-away request leaves the plan and the drops as they were"
-  pub leaves : answer ≡ no-candidate → written ≡ held
+  pub untouched : answer ≡ refused-32 → written ≡ held
 
--- Demand 2, of every accepted table. "The score of a full plan is the weighted count of chance outcomes that lead to true [..] with no rounding", for
+-- Demand 2, of every accepted table. What is called the score here is the weighted count. "The score of a full plan is the weighted count of chance outcomes that lead to true [..] with no rounding", for
 -- every full plan; and for every legal marking, and kits and percent within their limits ("Once every other check passes"), what is said of the search. Its
 -- buffer has one place a choice. What is assumed of answer and buffer is word for word what `score` and `search` promise.
 unfoldable pub Demand2 : Type 0
 Demand2 =
     (file : List ℕ) → Accepted file →
-    ((plan : List ℕ) (answer : ScoreAnswer) →
+    ((plan : List ℕ) → score (tableOf file) plan ≡ weightedCount file plan)
+    × ((plan : List ℕ) (answer : ScoreAnswer) →
     FullPlan file plan →
     outcomeOf answer ≡ scoreOutcome file plan →
     answer ≡ Score (weightedCount file plan))

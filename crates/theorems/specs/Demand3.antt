@@ -16,7 +16,8 @@ use Rattle.sweep.specs.declared.answer.SweepAnswer.the-variants.{Bound}
 use Rattle.sweep.specs.declared.answer.FilterAnswer.{FilterAnswer}
 use Rattle.sweep.specs.declared.answer.FilterAnswer.the-variants.{Forced, Refused}
 use Rattle.sweep.specs.Answer.{sweepOf, filterOf}
-use Rattle.theorems.specs.Plans.{Accepted, LegalMarking, Open, NonePasses, NoneLeaves}
+use Rattle.theorems.specs.Plans.{LegalMarking, Open, NonePasses, NoneLeaves}
+use Rattle.theorems.specs.Reasons.{Accepted}
 
 -- What demand 3 says of the sweep's answer and of the drops that it writes
 pub record SweepHolds (file plan : List ℕ) (answer : SweepAnswer) (drops : List ℕ) : Type 0 where
@@ -30,16 +31,16 @@ pub record SweepHolds (file plan : List ℕ) (answer : SweepAnswer) (drops : Lis
   pub otherLine : (i : ℕ) → i < length plan → (getD plan i 0 ≡ 0 → ⊥) → getD drops i 0 ≡ 0
 
 -- The answer 31
-abbrev pub none-passes : FilterAnswer
-none-passes = Refused (record { number = 31; place = 0 })
+abbrev pub refused-31 : FilterAnswer
+refused-31 = Refused (record { number = 31; place = 0 })
 
 -- What demand 3 says of the filter's answer and of the plan that it writes over what the buffer held
 pub record FilterHolds (file plan : List ℕ) (percent : ℕ) (held : List ℕ) (answer : FilterAnswer) (written : List ℕ) : Type 0 where
   pub size : length written ≡ length plan
   -- "the filter returns 31 exactly when no way of settling the open lines passes"
-  pub refuses : (answer ≡ none-passes) ↔ NonePasses file plan percent
+  pub refuses : (answer ≡ refused-31) ↔ NonePasses file plan percent
   -- and, of demand 1, "a turned-away request leaves the plan and the drops as they were"
-  pub leaves : answer ≡ none-passes → written ≡ held
+  pub untouched : answer ≡ refused-31 → written ≡ held
   -- "Otherwise the plan it writes has an open line taken exactly when no passing way leaves it"
   pub takes : (NonePasses file plan percent → ⊥) → (i : ℕ) → Open plan i → (getD written i 0 ≡ 1) ↔ NoneLeaves file plan percent i
   -- "and every other mark as it was handed in"

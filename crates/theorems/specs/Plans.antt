@@ -1,5 +1,5 @@
--- What document 01 says of plans, completions, passing and candidates, in words that the demands share: with every quantifier written out, and nothing of
--- a list that is gone through.
+-- What document 01 says of plans, completions, passing and candidates, in words that the demands share, with every quantifier written out: no list of
+-- completions is gone through.
 use Prim.Native.Nat.{ℕ, _*_, _≤_, _<_}
 use mathlib.Core.Path.{_≡_}
 use mathlib.Core.Logic.{_⊎_}
@@ -8,11 +8,6 @@ use lib.ListN.{length, getD}
 use Rattle.diagram.specs.Table.{tableOf, scale, choiceCount}
 use Rattle.diagram.specs.Score.{score}
 use Rattle.diagram.specs.Plans.{takenCount}
-use Rattle.diagram.specs.Services.{answered, reading, readOutcome}
-
--- "a table is accepted when reading has no ground to turn it away"
-abbrev pub Accepted : (file : List ℕ) → Type 0
-Accepted file = readOutcome file ≡ answered (reading file)
 
 -- "a marking is legal when it has one byte a choice and none above 2": 0 open, 1 taken, 2 left
 pub record LegalMarking (file plan : List ℕ) : Type 0 where

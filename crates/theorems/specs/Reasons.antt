@@ -1,5 +1,5 @@
--- Document 01, "Turned away", row by row: what is wrong with a request, and at which place. Nothing is looked for here: a row says of any place whether
--- the request is wrong there.
+-- Document 01, "Turned away", row by row: what is wrong with a request, and at which place. A row does not search: it says of each place whether the
+-- request is wrong there.
 use Prim.Native.Nat.{ℕ, _+_, _*_, _%_, _^_, _≤_, _<_}
 use mathlib.Core.Path.{_≡_}
 use mathlib.Core.Bool.{Bool, true}
@@ -13,15 +13,19 @@ use Rattle.theorems.specs.Plans.{NonePasses, NoCandidate}
 
 -- All that can come with a request; a service looks at what it takes
 pub record Request : Type 0 where
+  -- the program's job word
+  pub job : ℕ
   pub file : List ℕ
   pub plan : List ℕ
   pub percent : ℕ
-  pub kits : ℕ
+  -- the kits
+  pub budget : ℕ
   -- the written buffer's length
   pub size : ℕ
 
--- The rows of the table. 22 is two of them: `openMark` is the score's, "for the score also an open byte".
+-- The rows of the table. 22 is two of them: `fullPlanMark` is the score's, "for the score also an open byte".
 pub data Reason : Type 0 where
+  jobWord : Reason
   tableLength : Reason
   headingWord : Reason
   wordCount : Reason
@@ -32,15 +36,16 @@ pub data Reason : Type 0 where
   notMonotone : Reason
   planLength : Reason
   planMark : Reason
-  openMark : Reason
+  fullPlanMark : Reason
   percentLimit : Reason
-  kitsLimit : Reason
+  budgetLimit : Reason
   bufferLength : Reason
   noWayPasses : Reason
   noCandidate : Reason
 
 -- The number that a row returns
 unfoldable pub numberOf : Reason → ℕ
+numberOf jobWord = 10
 numberOf tableLength = 11
 numberOf headingWord = 12
 numberOf wordCount = 13
@@ -51,15 +56,20 @@ numberOf recordWord = 17
 numberOf notMonotone = 18
 numberOf planLength = 21
 numberOf planMark = 22
-numberOf openMark = 22
+numberOf fullPlanMark = 22
 numberOf percentLimit = 23
-numberOf kitsLimit = 24
+numberOf budgetLimit = 24
 numberOf bufferLength = 25
 numberOf noWayPasses = 31
 numberOf noCandidate = 32
 
 -- ---------------------------------------------------------------------------
 -- Right words
+
+-- "5 job | kits | 0 | percent"
+pub record JobWord (w : ℕ) : Type 0 where
+  pub kind-is : kind w ≡ 5
+  pub zero : fieldQ w ≡ 0
 
 -- "1 heading | V, variables, 1 to 60 | N, records, 1 to 254 | 0"
 pub record HeadingWord (w : ℕ) : Type 0 where
@@ -115,6 +125,8 @@ AtRecord file i k = (k < recordCount file) × (i ≡ 1 + variableCount file + k)
 
 -- Whether a request is wrong at a place, in the words of each row. "Places in a file count words from the heading, which is 0."
 unfoldable pub Wrong : Request → Reason → (place : ℕ) → Type 0
+-- 10: "job word missing, kind not 5, or Q not 0"; a missing word is 0, which is of no kind
+Wrong q jobWord i = (i ≡ 0) × (JobWord (q .job) → ⊥)
 -- 11: "table length under 4, over 1,260 or no multiple of 4"
 Wrong q tableLength i = (i ≡ 0) × ((length (q .file) < 4) ⊎ ((1260 < length (q .file)) ⊎ (length (q .file) % 4 ≡ 0 → ⊥)))
 -- 12: "heading's kind or a field wrong"
@@ -138,17 +150,17 @@ Wrong q planLength i = (i ≡ 0) × (length (q .plan) ≡ choiceCount (tableOf (
 -- 22: "a plan byte above 2", by its index
 Wrong q planMark i = (i < length (q .plan)) × (2 < getD (q .plan) i 0)
 -- 22: "for the score also an open byte"
-Wrong q openMark i = (i < length (q .plan)) × ((2 < getD (q .plan) i 0) ⊎ (getD (q .plan) i 0 ≡ 0))
+Wrong q fullPlanMark i = (i < length (q .plan)) × ((2 < getD (q .plan) i 0) ⊎ (getD (q .plan) i 0 ≡ 0))
 -- 23: "percent above 100"
 Wrong q percentLimit i = (i ≡ 0) × (100 < q .percent)
 -- 24: "kits above 20"
-Wrong q kitsLimit i = (i ≡ 0) × (20 < q .kits)
+Wrong q budgetLimit i = (i ≡ 0) × (20 < q .budget)
 -- 25: "the written buffer's length is not the number of choices"
 Wrong q bufferLength i = (i ≡ 0) × (q .size ≡ choiceCount (tableOf (q .file) .variables) → ⊥)
 -- 31: "filter: no completion passes"
 Wrong q noWayPasses i = (i ≡ 0) × NonePasses (q .file) (q .plan) (q .percent)
 -- 32: "search: no candidate"
-Wrong q noCandidate i = (i ≡ 0) × NoCandidate (q .file) (q .plan) (q .kits) (q .percent)
+Wrong q noCandidate i = (i ≡ 0) × NoCandidate (q .file) (q .plan) (q .budget) (q .percent)
 
 -- ---------------------------------------------------------------------------
 -- "Checks run in this table's order, each over the whole file before the next; those a service has no input for are skipped."
@@ -158,18 +170,25 @@ unfoldable pub fileReasons : List Reason
 fileReasons =
     tableLength ∷ headingWord ∷ wordCount ∷ variableWord ∷ choiceLimit ∷ scaleLimit ∷ recordWord ∷ notMonotone ∷ []
 
--- Those of the score, the sweep, the filter and the search
+-- Those of the score
 unfoldable pub scoreReasons : List Reason
-scoreReasons = fileReasons ++ planLength ∷ openMark ∷ []
+scoreReasons = fileReasons ++ planLength ∷ fullPlanMark ∷ []
 
+-- Those of the sweep
 unfoldable pub sweepReasons : List Reason
 sweepReasons = fileReasons ++ planLength ∷ planMark ∷ bufferLength ∷ []
 
+-- Those of the filter
 unfoldable pub filterReasons : List Reason
 filterReasons = fileReasons ++ planLength ∷ planMark ∷ percentLimit ∷ bufferLength ∷ noWayPasses ∷ []
 
+-- Those of the search
 unfoldable pub searchReasons : List Reason
-searchReasons = fileReasons ++ planLength ∷ planMark ∷ percentLimit ∷ kitsLimit ∷ bufferLength ∷ noCandidate ∷ []
+searchReasons = fileReasons ++ planLength ∷ planMark ∷ percentLimit ∷ budgetLimit ∷ bufferLength ∷ noCandidate ∷ []
+
+-- Those of the program, which searches from the fully open plan
+unfoldable pub programReasons : List Reason
+programReasons = jobWord ∷ searchReasons
 
 -- A request is turned away with the number of the first row that finds it wrong at some place, and with the first such place
 pub data TurnedAway (q : Request) : List Reason → (number place : ℕ) → Type 0 where
@@ -179,4 +198,26 @@ pub data TurnedAway (q : Request) : List Reason → (number place : ℕ) → Typ
 -- No row finds it wrong at any place
 pub data LetThrough (q : Request) : List Reason → Type 0 where
   no-row : LetThrough q []
-  right : {r : Reason} {rs : List Reason} → ((j : ℕ) → Wrong q r j → ⊥) → LetThrough q rs → LetThrough q (r ∷ rs)
+  passes-row : {r : Reason} {rs : List Reason} → ((j : ℕ) → Wrong q r j → ⊥) → LetThrough q rs → LetThrough q (r ∷ rs)
+
+-- ---------------------------------------------------------------------------
+-- Accepted tables
+
+-- A file with nothing that comes with it
+abbrev pub fileAlone : (file : List ℕ) → Request
+fileAlone file = record { job = 0; file = file; plan = []; percent = 0; budget = 0; size = 0 }
+
+-- "a table is accepted when reading has no ground to turn it away"
+abbrev pub Accepted : (file : List ℕ) → Type 0
+Accepted file = LetThrough (fileAlone file) fileReasons
+
+-- A table file that is right from its first word to its last: "one heading, V variable words with positions 0 to V-1 in order, then N records", within
+-- all limits
+pub record WholeTable (file : List ℕ) : Type 0 where
+  pub size : length file ≡ 4 * (1 + variableCount file + recordCount file)
+  pub heading : HeadingWord (wordAt file 0)
+  pub variables : (p : ℕ) → p < variableCount file → ChoiceWord p (wordAt file (1 + p)) ⊎ ChanceWord p (wordAt file (1 + p))
+  pub choices : choiceCount (tableOf file .variables) ≤ 20
+  pub scale : scaleOf (tableOf file .variables) ≤ 2 ^ 56
+  pub records : (k : ℕ) → k < recordCount file → RecordWord (variableCount file) (tableOf file .records) k (wordAt file (1 + variableCount file + k))
+  pub monotone : (k : ℕ) → k < recordCount file → MonotoneAt (tableOf file) k
