@@ -45,9 +45,9 @@ word-length false = refl
 pub wrote-within : {a b : List ℕ} {j : ℕ} {x : List ℕ} → Wrote a 0 b j x → j ≤ length a
 wrote-within {b = b} {j} w = omega (arith, w .count, w .size, ap length (w .text), length-take j b)
 
--- and of a buffer of zeros what stands after it is zeros
-pub wrote-all : (n : ℕ) {b : List ℕ} {j : ℕ} {x : List ℕ} → Wrote (replicate n 0) 0 b j x → b ≡ x ++ replicate (n - j) 0
-wrote-all n {b} {j} w = sym (take-append-drop j b) ∙ rw (w .text, w .rest, drop-replicate j n 0) refl
+-- what is written from the start of zeros is followed by zeros
+pub wrote-all : (n v : ℕ) {b : List ℕ} {j : ℕ} {x : List ℕ} → Wrote (replicate n v) 0 b j x → v ≡ 0 → b ≡ x ++ replicate (n - j) 0
+wrote-all n v {b} {j} w e = sym (take-append-drop j b) ∙ rw (w .text, w .rest, drop-replicate j n v, e) refl
 
 module _ {a b : List ℕ} {i j : ℕ} where
   -- a number takes at most 20 places
