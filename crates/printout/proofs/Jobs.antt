@@ -6,6 +6,7 @@ use mathlib.Core.Path.{_≡_, refl, ap, sym, _∙_}
 use mathlib.Core.List.{List, _∷_}
 use mathlib.Core.Logic.{by-cases}
 use lib.ListN.{length, take, drop, replicate}
+use lib.Seq.{take-take}
 use borrow.Author.Tests.{eq-eqb, ne-eqb, le-ltb}
 use Rattle.diagram.specs.Words.{wordAt, kind, fieldP, fieldQ, fieldR}
 use Rattle.diagram.specs.Table.{tableOf, choiceCount, scale}
@@ -108,3 +109,8 @@ module _ (input : List ℕ) {w k : ℕ} (word : w ≡ wordAt input 0) (kinds : k
 pub printed : (input : List ℕ) {read a b : List ℕ} {j : ℕ} → read ≡ take 1265 input → Wrote a 0 b j (searchText (tableOf (drop 4 read)) (programOutcome read)) → Wrote a 0 b j (printout input)
 unfolding printout
 printed input e w = rw e at w
+
+-- so what follows them is not printed
+pub printed-part : (input : List ℕ) {n : ℕ} → 1265 ≤ n → printout (take n input) ≡ printout input
+unfolding printout
+printed-part input {n} h = rw (take-take 1265 n input h) refl

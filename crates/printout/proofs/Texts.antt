@@ -1,15 +1,16 @@
 -- Where the texts of the printout end at the most, the word of a mark, and the lines of the marks one after the other. Assumes nothing.
-use Prim.Native.Nat.{ℕ, suc, _+_, _≤_, _<_, _^_}
+use Prim.Native.Nat.{ℕ, suc, _+_, _-_, _≤_, _<_, _^_}
 use native.Mathlib.Nat.{add-zero, zero-add, add-suc, suc-add}
 use native.Mathlib.Numerals.{add-one}
 use native.Mathlib.Omega.{arith}
-use mathlib.Core.Path.{_≡_, refl, ap}
+use mathlib.Core.Path.{_≡_, refl, ap, sym, _∙_}
 use mathlib.Core.Bool.{Bool, true, false, cond}
 use mathlib.Core.List.{List, [], _∷_, _++_, append-assoc, append-nil}
-use lib.ListN.{length, getD, take, length-append, length-take}
+use lib.ListN.{length, getD, take, replicate, length-append, length-take, take-append-drop}
 use lib.Seq.{take-suc, length-take-le}
 use borrow.Author.Tests.{eq-eqb, ne-eqb}
 use Rattle.diagram.specs.Score.{isTaken}
+use Rattle.diagram.proofs.Places.{drop-replicate}
 use Rattle.diagram.specs.Printout.{decimal, choicesWord, scaleWord, kitsWord, scoreWord, visitsWord, takeWord, leftWord, line, markLines}
 use Rattle.printout.specs.Writing.{Wrote, tableText, foundText, markText}
 use Rattle.printout.proofs.Writes.{wrote-then}
@@ -44,6 +45,10 @@ word-length false = refl
 pub wrote-within : {a b : List ℕ} {j : ℕ} {x : List ℕ} → Wrote a 0 b j x → j ≤ length a
 wrote-within {b = b} {j} w = omega (arith, w .count, w .size, ap length (w .text), length-take j b)
 
+-- what is written from the start of zeros is followed by zeros
+pub wrote-all : (n v : ℕ) {b : List ℕ} {j : ℕ} {x : List ℕ} → Wrote (replicate n v) 0 b j x → v ≡ 0 → b ≡ x ++ replicate (n - j) 0
+wrote-all n v {b} {j} w e = sym (take-append-drop j b) ∙ rw (w .text, w .rest, drop-replicate j n v, e) refl
+
 module _ {a b : List ℕ} {i j : ℕ} where
   -- a number takes at most 20 places
   pub number-ends : {n : ℕ} → Wrote a i b j (decimal n) → n < 2 ^ 64 → j ≤ i + 20
@@ -75,7 +80,7 @@ module _ {a b : List ℕ} {i j : ℕ} where
 -- no line is written at the start
 pub lines-start : {a : List ℕ} {i : ℕ} → Wrote a i a i (markLines 0 [])
 unfolding markLines
-lines-start = record { text = rw append-nil refl; count = omega arith; size = refl }
+lines-start = record { text = rw append-nil refl; count = omega arith; size = refl; rest = refl }
 
 -- the lines of the marks, and of one mark more
 lines-more : (i : ℕ) (p : List ℕ) (m : ℕ) → markLines i (p ++ m ∷ []) ≡ markLines i p ++ markText (i + length p) m

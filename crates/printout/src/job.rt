@@ -12,13 +12,14 @@ use reading::read;
 use search::SearchAnswer;
 use search::search;
 ghost use mathlib.Core.Path.{_≡_};
-ghost use Prim.Native.Nat.{_≤_};
-ghost use lib.ListN.{length, take, drop};
+ghost use mathlib.Core.List.{_++_};
+ghost use Prim.Native.Nat.{_-_, _≤_};
+ghost use lib.ListN.{length, take, drop, replicate};
 ghost use Rattle.diagram.specs.Table.{tableOf};
 ghost use Rattle.diagram.specs.Printout.{searchText, jobOutcome, programOutcome, printout};
 ghost use Rattle.printout.specs.Writing.{Wrote};
 
-// The text printed: the first `count` bytes, in ASCII.
+// The text printed: the first `count` bytes, in ASCII. The rest is zeros.
 pub struct Text {
     pub bytes: [u8; 1024],
     pub count: usize,
@@ -26,13 +27,25 @@ pub struct Text {
 
 // What is printed for an input, of which at most 1,265 bytes are read: a job word, then a table.
 pub fn print(input: &[u8]) -> Text
-    ensures text { λ r. ⌜ take (r .count) (r .bytes) ≡ printout (now (input .entry)) ⌝ }
+    ensures text { λ r. ⌜ r .bytes ≡ printout (now (input .entry)) ++ replicate (1024 - r .count) 0 ⌝ }
     ensures count { λ r. ⌜ (r .count ≡ length (printout (now (input .entry)))) × (r .count ≤ 1024) ⌝ }
 {
     let mut bytes = [0u8; 1024];
     let n = at_most_1265(input);
     let count = put_job(&mut bytes[..], &input[..n]);
     Text { bytes, count }
+}
+
+// What is printed where the first n bytes of the program's array have been read. An n above 1,265 counts as 1,265.
+pub fn print_read(input: &[u8; 1265], n: usize) -> Text
+    ensures text { λ r. ⌜ r .bytes ≡ printout (take n (now (input .entry))) ++ replicate (1024 - r .count) 0 ⌝ }
+    ensures count { λ r. ⌜ (r .count ≡ length (printout (take n (now (input .entry))))) × (r .count ≤ 1024) ⌝ }
+{
+    let all = &input[..];
+    if n < 1265 {
+        return print(&all[..n]);
+    }
+    print(all)
 }
 
 // How many bytes of an input are read.

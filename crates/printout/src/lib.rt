@@ -5,3 +5,4 @@ mod text;
 
 pub use job::Text;
 pub use job::print;
+pub use job::print_read;

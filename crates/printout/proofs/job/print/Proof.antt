@@ -1,9 +1,9 @@
 -- `print` meets its contract: what the job's bytes come to is written from the buffer's start. Assumes nothing.
 use native.Mathlib.Nat.{zero-add}
-use mathlib.Core.Path.{sym, _∙_}
+use mathlib.Core.Path.{refl, sym, _∙_}
 use lib.Seq.{length-take-le}
 use borrow.Author.Needs.{needs}
-use Rattle.printout.proofs.Texts.{wrote-within}
+use Rattle.printout.proofs.Texts.{wrote-within, wrote-all}
 use Rattle.printout.proofs.Jobs.{printed}
 use Rattle.printout.proofs.job.print.Statement.{statement}
 use Rattle.printout.proofs.job.print.Tie as tie
@@ -23,7 +23,7 @@ put-job-requires c κs = search needs
 returns : tie.Need-returns
 returns c =
     let w = printed (c .before .before .before .before .before .before .args .input .now) (c .before .before .before .before .at-most-1265 .ensures .1) (c .before .put-job .ensures) in
-    (w .text, (w .count ∙ zero-add _, wrote-within w))
+    (wrote-all 1024 _ w refl, (w .count ∙ zero-add _, wrote-within w))
 
 pub print-spec : {M : Type 1} → statement M
 print-spec =

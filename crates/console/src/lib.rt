@@ -1,0 +1,10 @@
+// What the program `plan` does: it reads a job word and a table from standard input, at most 1,265 bytes, and prints the plan
+// or the refusal. The programs `plan`, `plan_at_limit` and `plan_past_limit` are this function, run on three inputs.
+pub fn run() {
+    let mut input = [0u8; 1265];
+    let n = io::read_full(libc::STDIN_FILENO, &mut input);
+    let text = printout::print_read(&input, n);
+    let bytes = text.bytes;
+    let count = text.count;
+    io::write_all(libc::STDOUT_FILENO, &bytes[..count]);
+}

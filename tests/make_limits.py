@@ -1,0 +1,45 @@
+#!/usr/bin/env python3
+"""Writes the standard input of the programs `plan_at_limit` and `plan_past_limit`, and what they have to print, the latter by oracle.py.
+
+Both inputs begin with a job word and a table of 60 variables and 254 records, 1,264 bytes, which is the longest job that is answered.
+`plan_at_limit` reads these bytes alone. `plan_past_limit` has 36 more, so that the table is longer than any, which is refused.
+Run it in this folder: python3 make_limits.py
+"""
+from oracle import bytes_of, printout, word
+
+CHOICES = (48, 51, 54, 57)
+
+
+def variable(p):
+    """A choice, a chance below the first choice, or a certain event above it."""
+    if p in CHOICES:
+        return word(2, p, 0, 0)
+    return word(3, p, 10 - p % 3, 10) if p > CHOICES[0] else word(3, p, 1, 1)
+
+
+def record(k):
+    """Five records a position, from the last position up. Each of the five holds wherever the one before it does."""
+    p, column = 59 - k // 5, k % 5
+
+    def below(c):
+        return k - column - 3 + min(max(c, 0), 4)
+
+    if p == 59:
+        return word(4, p, int(column > 0), int(column == 4))
+    if p in CHOICES:
+        return word(4, p, below(column + 1), below(column))
+    return word(4, p, below(column), below(column - 1) if p > CHOICES[0] else 0)
+
+
+def write(name, data):
+    with open(f"../crates/{name}/stdin", "wb") as out:
+        out.write(data)
+    with open(f"../crates/{name}/stdout", "w") as out:
+        out.write(printout(data))
+
+
+table = [word(1, 60, 254, 0)] + [variable(p) for p in range(60)] + [record(k) for k in range(254)]
+job = bytes_of([word(5, 2, 0, 50)] + table)
+assert len(job) == 1264 and printout(job).startswith("choices 4 ")
+write("plan_at_limit", job)
+write("plan_past_limit", job + bytes_of(table[-9:]))
