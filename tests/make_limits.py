@@ -2,7 +2,8 @@
 """Writes the standard input of the programs `plan_at_limit` and `plan_past_limit`, and what they have to print, the latter by oracle.py.
 
 Both inputs begin with a job word and a table of 60 variables and 254 records, 1,264 bytes, which is the longest job that is answered.
-`plan_at_limit` reads these bytes alone. `plan_past_limit` has 36 more, so that the table is longer than any, which is refused.
+`plan_at_limit` reads these bytes alone. `plan_past_limit` has 36 more, so that the table is longer than any, which is refused; it then
+prints how many bytes are left unread, which are those after the first 1,265.
 Run it in this folder: python3 make_limits.py
 """
 from oracle import bytes_of, printout, word
@@ -31,15 +32,16 @@ def record(k):
     return word(4, p, below(column), below(column - 1) if p > CHOICES[0] else 0)
 
 
-def write(name, data):
+def write(name, data, after=""):
     with open(f"../crates/{name}/stdin", "wb") as out:
         out.write(data)
     with open(f"../crates/{name}/stdout", "w") as out:
-        out.write(printout(data))
+        out.write(printout(data) + after)
 
 
 table = [word(1, 60, 254, 0)] + [variable(p) for p in range(60)] + [record(k) for k in range(254)]
 job = bytes_of([word(5, 2, 0, 50)] + table)
 assert len(job) == 1264 and printout(job).startswith("choices 4 ")
 write("plan_at_limit", job)
-write("plan_past_limit", job + bytes_of(table[-9:]))
+past = job + bytes_of(table[-9:])
+write("plan_past_limit", past, str(len(past) - 1265))
