@@ -1,4 +1,4 @@
-// rustc --edition 2024 -O -o target/hard_table tests/hard_table.rs && target/hard_table tests/hard_table.hex
+// rustc --edition 2024 -O --out-dir target tests/hard_table.rs && target/hard_table tests/hard_table.hex
 //
 // Finds a legal table that is hard for check 18, in two minutes, writes its words to the file named, and prints how
 // many pairs of nodes a read meets. Every record stands for the event of the last variable, by way of others: each pair
