@@ -1,5 +1,6 @@
 #!/bin/sh
 # Runs `plan` on input that comes in pieces, and on input after which more would follow: it must print at once, without waiting for the end.
+# The gate does not run it: a program there has one file for its input, and no pipe on which to wait.
 set -eu
 cd "$(dirname "$0")/.."
 plan=target/bin/plan
