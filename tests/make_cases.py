@@ -1,13 +1,14 @@
 #!/usr/bin/env python3
 """Writes the input of the test program `cases` and what it has to write, the latter by oracle.py. Run it in this folder."""
 import random
+import re
 
 from oracle import (bytes_of, fields, printout, read, Refused, scored_ways, show_filter, show_read, show_score, show_search, show_sweep, word)
 
 A = [0x11002000, 0x20000000, 0x30400802, 0x20800000, 0x30C0300A, 0x40C00800, 0x40801000, 0x40400803, 0x40002003]
 B = [0x10801000, 0x20000000, 0x3040380A, 0x40400800, 0x40001000]
 
-lines, answers = [], []
+lines, answers, cases = [], [], []
 
 
 def note(text):
@@ -27,6 +28,7 @@ def marks_of(plan):
 def case(label, service, text, answer):
     lines.append(f"{label}: {service} {text}".rstrip())
     answers.append(f"{label}:{answer}")
+    cases.append((label, service, text, answer))
 
 
 def file_of(data):
@@ -473,6 +475,34 @@ for i in range(60):
     runs(f"job, made {i}", [word(5, rng.randint(0, 4), 0, rng.randint(0, 100))] + made(rng.randint(1, 9), rng.randint(1, 16)))
 for i in range(60):
     runs(f"job, shared {i}", [word(5, rng.randint(0, 4), 0, rng.randint(0, 100))] + layered(rng.randint(3, 10), rng.randint(4, 24)))
+
+
+def on_opened_tables(chosen):
+    """The same requests by the upper-case letters, which open the file first; the answers are the same."""
+    for label, service, text, answer in list(chosen):
+        case(f"opened, {label}", service.upper(), text, answer)
+
+
+def first_refusals():
+    """Of each service and number of a refusal the first two cases."""
+    found = {}
+    for c in services:
+        number = re.match(r" refused (\d+)", c[3])
+        if number:
+            found.setdefault((c[1], number[1]), []).append(c)
+    return [c for of_one in found.values() for c in of_one[:2]]
+
+
+services = [c for c in cases if c[1] != "j"]
+printed = [text_of(bytes_of(t)) for t in (A, B)]
+own = [c for c in services if c[2].split(" | ")[0] in printed]
+note("Requests of opened tables, of A and B")
+on_opened_tables(c for c in own if c[1] in "rsw")
+on_opened_tables([c for c in own if c[1] in "fp"][::7])
+note("Requests of opened tables, of each service every refusal")
+on_opened_tables(first_refusals())
+note("Requests of opened tables that are answered")
+on_opened_tables([c for c in services if not c[3].startswith(" refused")][::20])
 
 with open("../crates/cases/stdin", "w") as out:
     out.write("\n".join(lines) + "\n")

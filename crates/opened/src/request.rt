@@ -1,5 +1,5 @@
-// Requests on a file: each opens it, and asks a service of the opened table. Their parameters are plain, so a caller keeps no
-// opened table.
+// Requests on a file: each opens it and asks a service of the opened table. Parameters and answers hold no opened table, so
+// that the prover covers a caller.
 use crate::filter;
 use crate::open;
 use crate::score;
