@@ -11,7 +11,7 @@
 #   first      a call before the core's, of a function over the slice `param`: its answer, a held struct that is `value` by the last of its `facts`, is
 #              kept in a local and passed on as ('local',)
 #   facts      the core's clauses at these values; the last list of a `&mut [T]` that is argument j is zs .1 .. .1 .0, with j times .1
-#   says       the function's clauses, each with its proof from e₀, e₁, .. : facts (by default, the facts themselves)
+#   says       proofs of the function's clauses from e₀, e₁, .. : facts (by default, the facts themselves)
 #   requires, core_requires      one fact, in hand as `within`, and the proof of the core's from it
 import re
 import sys
@@ -319,8 +319,8 @@ def gen(S):
         elif p['kind']=='mutstruct': lastv.append(f'r .{store["fields"][0]}'); fits.append('tt')
         else: lastv.append('tt'); fits.append('tt')
     w.emit(f'suffices ! _ (ends-at 𝓤 H A me.ended stayed (me.clauses 𝓤 H A {mem} run) W (({κs}, {qs}, tt, arg, vals), tt) ({rv}) ({rd}) {tup(lastv)} {tup(fits)}) $')
-    ends=S.get('says',list(zip(facts,es)))
-    for i,(f,x) in reversed(list(enumerate(ends))): w.new(f'use0 W (raw (fact 𝓤 ({f}))) (factI 𝓤 ({f}) (emp 𝓤) ({x})) $',f'said {i}')
+    ends=S.get('says',es); kept=' (zs : '+zt+')' if muts else ''; promise=f'me.clauses 𝓤 H A {mem} run {κs} arg .ensures tt ({rd}) (atExit me.ended {κs} arg {tup(lastv)})'
+    w.new(f'use0 W (raw ({promise})) (promised r {"zs " if muts else ""}{" ".join(es)}) $','said')
     w.new('nothing ! $','HAD')
     for i in range(len(P)-1,-1,-1):
         p=P[i]; n=p['name']; k=p['kind']
@@ -333,7 +333,7 @@ def gen(S):
     w.new('nothing ! $','TOK')
     for i in reversed(range(nl)): w.join('join',f'tok {i}','TOK','TOK')
     w.join('join','HAD','own r','HAD'); w.join('join','TOK','HAD','TOK'); w.emit('done !')
-    assert w.ctx==['TOK']+[f'said {i}' for i in range(len(ends))],w.ctx
+    assert w.ctx==['TOK','said'],w.ctx
     # ---- the file
     mp='';wargs=[]
     for i,p in enumerate(P):
@@ -414,9 +414,10 @@ use denote.Triple.Call.{calls-at}
 use denote.Triple.Entry.{Args, Vals, onEntry}
 use denote.Triple.Spec.{Meets, tripleOf}
 use denote.Triple.Table.{entered, cited}
-use denote.Triple.Clauses.{ensured, lasts}
+use denote.Triple.Clauses.{ensured, lasts, atExit}
 use denote.Triple.Walked.{says, needs, Stays, stay-ref, stay-none, stay-none-ref, stay-none-slice, gave-slice, walkOf, goes-none, goes-none-ref, goes-none-slice, goes-ref, goes-gave-slice, Walks, ends-at, walked, walk-meets}
 use denote.Exit.{yes}''')
+    o.append(f'use Rattle.{cr}.proofs.Promises.{{both}}')
     o+=S.get('uses',[])
     for t in types:
         n=f'T{SUB[types.index(t)]}'
@@ -449,6 +450,9 @@ use denote.Exit.{yes}''')
     if F:
         o.append(f'  asked-first : ent 𝓤 (onEntry 𝓤 H A first.signature {f_κ} {f_q} {f_arg} {f_vals}) (First 𝓤 H A at-mem run .pre to-first)\n  asked-first = qed W ({f_tok} ∷ ‵ (owns ({row[F["param"]]} ∷ []) {f_arg} {f_vals}) ∷ []) ∵ join ! $ frame ! $ done !\n')
         said('said-first','x',F['type'],f_ens,F['facts'],f'first.ended {f_κ} {f_arg}')
+    shown=f'factI 𝓤 _ (emp 𝓤) ({ends[-1]})'
+    for x in reversed(ends[:-1]): shown=f'both 𝓤 (factI 𝓤 _ (emp 𝓤) ({x})) ({shown})'
+    o.append(f'  -- what is promised, clause by clause\n  promised : (r : {rden}){kept} → {" → ".join(facts)} → ent 𝓤 (emp 𝓤) ({promise})\n  promised r {"zs " if muts else ""}{" ".join(es)} = {shown}\n')
     if not muts: said('said','r',rden,ens,facts,f'core.ended {cκ} {cden}')
     o.append(f'  module _{facts_of} (C : Calls 𝓤 H) (Λ : Loops 𝓤 H) (fm : FmC 𝓤 H (W .laws) C){in_hand} where')
     o.append(f'    walk : ent 𝓤 (onEntry 𝓤 H A me.signature {κs} {qs} arg vals) (WpFn 𝓤 H C Λ code.function ({lst(val)}) Post)\n    walk =\n        qed W ({tok(range(nl))} ∷ ‵ (owns ({lst(row)}) arg vals) ∷ []) ∵ enter ! C Λ code.function ({lst(val)}) _ $ {allocs}\n        '+wrapped(w.out)+')'*(w.close+nloc)+'\n')
@@ -495,7 +499,7 @@ def specs():
     'open':dict(crate='opened',path=['open'],core='opening_of',lifetimes=1,core_lifetimes=[0],type_module={'Table':'table','Opening':'table'},params=[dict(kind='shr',name='bytes',elem='u8',lft=0)],args=[('param',0)],
         result=dict(kind='struct',type='Opening',fields=['variables','records','choices','scale','state'],make=dict(type='Table',lft=0,fields=['bytes','variables','records','choices','scale','state'],
         **{'from':[('param',0),('res','variables',0,'usize'),('res','records',1,'usize'),('res','choices',2,'usize'),('res','scale',3,'u64'),('enum','state',4)]})),
-        facts=['openingOf r ≡ readOutcome (now bytes)','r ≡ openingFor (readOutcome (now bytes))'],says=[('openedOf (tableWith bytes r) ≡ readOutcome (now bytes)','e₀'),('tableWith bytes r ≡ tableWith bytes (openingFor (readOutcome (now bytes)))','ap (tableWith bytes) e₁')],
+        facts=['openingOf r ≡ readOutcome (now bytes)','r ≡ openingFor (readOutcome (now bytes))'],says=['e₀','ap (tableWith bytes) e₁'],
         uses=['use Rattle.diagram.specs.Services.{readOutcome}','use Rattle.opened.specs.Answer.{openingOf, openingFor, openedOf, tableWith}']),
     'score':one('score','scoring','ScoreAnswer',[dict(TABLE),dict(PLAN)],[f'outcomeOf r ≡ scoreOutcome {B} (now plan)'],['use Rattle.diagram.specs.Services.{scoreOutcome}','use Rattle.scoring.specs.Answer.{outcomeOf}']),
     'sweep':one('sweep','sweep','SweepAnswer',[dict(TABLE),dict(PLAN),out('drops','u64')],[f'sweepOf r (zs .1 .1 .0) ≡ sweepOutcome {B} (now plan) (length drops)',f'zs .1 .1 .0 ≡ sweepBuffer {B} (now plan) drops'],
@@ -507,7 +511,7 @@ def specs():
     'open_and_read':dict(crate='opened',path=['request','open_and_read'],core='open',lifetimes=1,core_lifetimes=[0],type_module={x:'table' for x in ['Table','Opening','State']},params=[dict(FILE)],args=[('param',0)],
         result=dict(kind='held',type='Table',lft=0,fields=['bytes','variables','records','choices','scale','state'],make=dict(type='Opening',fields=['variables','records','choices','scale','state'],
         **{'from':[('res','variables',1,'usize'),('res','records',2,'usize'),('res','choices',3,'usize'),('res','scale',4,'u64'),('enum','state',5,'State')]})),
-        facts=opens,says=[(f'openedOf r ≡ {R}','e₀'),(f'openingIn r ≡ openingFor ({R})','ap openingIn e₁')],
+        facts=opens,says=['e₀','ap openingIn e₁'],
         uses=['use Rattle.diagram.specs.Services.{readOutcome}','use Rattle.opened.specs.Answer.{openingFor, openedOf, openingIn, tableWith}']),
     }
     return dict(thin,**{f'open_and_{x}':asks(f'open_and_{x}',thin[x]) for x in ['score','sweep','filter','search']})
