@@ -495,10 +495,10 @@ def first_refusals():
 
 services = [c for c in cases if c[1] != "j"]
 printed = [text_of(bytes_of(t)) for t in (A, B)]
-own = [c for c in services if c[2].split(" | ")[0] in printed]
+of_both = [c for c in services if c[2].split(" | ")[0] in printed]
 note("Requests of opened tables, of A and B")
-on_opened_tables(c for c in own if c[1] in "rsw")
-on_opened_tables([c for c in own if c[1] in "fp"][::7])
+on_opened_tables(c for c in of_both if c[1] in "rsw")
+on_opened_tables([c for c in of_both if c[1] in "fp"][::7])
 note("Requests of opened tables, of each service every refusal")
 on_opened_tables(first_refusals())
 note("Requests of opened tables that are answered")

@@ -1,15 +1,15 @@
 #!/usr/bin/env python3
-# Writes proofs/F/Proof.antt of a thin function F, one that takes its parameters apart, or makes a struct of them by a first call, calls ONE function (its core)
-# and hands the answer on:
-# the prover does not cover such a function, and its proof is a walk of its MIR. Usage, from the root: tools/thin.py F > crates/opened/proofs/F/Proof.antt
+# Writes proofs/F/Proof.antt of a thin function F, one that takes its parameters apart, or makes a struct of one by a first call, then calls ONE function, its
+# core, and hands the answer on: the prover does not cover such a function, and its proof is a walk of its MIR. Usage, from the root, then `rt fmt`:
+#   tools/thin.py F > crates/opened/proofs/F/Proof.antt      (of the module `request`: proofs/request/F)
 # The entries are in specs() at the end. Their fields:
 #   params     held (a struct of & slices and plain fields, by value), shr (&[T]), mutslice (&mut [T], lent on), num,
 #              mutstruct (&mut S, read out whole and stored back), refstruct (&S, read out whole). `name` is the proof's variable, `lft` the lifetime's number
-#   args       what the core is passed: ('field', param, k), ('param', i), ('out', i) for a struct that was read out
+#   args       what the core is passed: ('field', param, k), ('param', i), ('out', i) for a struct that was read out, ('local',) for the first call's answer
 #   lifetimes, core_lifetimes    how many the function has, and which of them stand for the core's
 #   result     the core's answer: uint, enum, struct or held; `make` puts a struct together from it, `store` writes a part of it back
 #   first      a call before the core's, of a function over the slice `param`: its answer, a held struct that is `value` by the last of its `facts`, is
-#              kept in a local and passed on as ('local',)
+#              kept in a local
 #   facts      the core's clauses at these values; the last list of a `&mut [T]` that is argument j is zs .1 .. .1 .0, with j times .1
 #   says       proofs of the function's clauses from e₀, e₁, .. : facts (by default, the facts themselves)
 #   requires, core_requires      one fact, in hand as `within`, and the proof of the core's from it
@@ -512,7 +512,7 @@ def specs():
         result=dict(kind='held',type='Table',lft=0,fields=['bytes','variables','records','choices','scale','state'],make=dict(type='Opening',fields=['variables','records','choices','scale','state'],
         **{'from':[('res','variables',1,'usize'),('res','records',2,'usize'),('res','choices',3,'usize'),('res','scale',4,'u64'),('enum','state',5,'State')]})),
         facts=opens,says=['e₀','ap openingIn e₁'],
-        uses=['use Rattle.diagram.specs.Services.{readOutcome}','use Rattle.opened.specs.Answer.{openingFor, openedOf, openingIn, tableWith}']),
+        uses=['use Rattle.diagram.specs.Services.{readOutcome}','use Rattle.opened.specs.Answer.{openingFor, openedOf, tableWith}','use Rattle.opened.proofs.Openings.{openingIn}']),
     }
     return dict(thin,**{f'open_and_{x}':asks(f'open_and_{x}',thin[x]) for x in ['score','sweep','filter','search']})
 if __name__=='__main__': print(gen(specs()[sys.argv[1]]),end='')

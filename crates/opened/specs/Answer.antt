@@ -34,8 +34,3 @@ openingFor (refused number place) =
 abbrev pub tableWith : RefT (List ℕ) → Opening → Table
 tableWith bytes o =
     record { bytes = bytes; variables = o .variables; records = o .records; choices = o .choices; scale = o .scale; state = o .state }
-
--- The opening that an opened table has in it
-abbrev pub openingIn : Table → Opening
-openingIn t =
-    record { variables = t .variables; records = t .records; choices = t .choices; scale = t .scale; state = t .state }

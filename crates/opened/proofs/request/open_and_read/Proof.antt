@@ -44,7 +44,8 @@ use denote.Triple.Walked.{Stays, stay-none-slice, walkOf, goes-none-slice, Walks
 use denote.Exit.{yes}
 use Rattle.opened.proofs.Promises.{both}
 use Rattle.diagram.specs.Services.{readOutcome}
-use Rattle.opened.specs.Answer.{openingFor, openedOf, openingIn, tableWith}
+use Rattle.opened.specs.Answer.{openingFor, openedOf, tableWith}
+use Rattle.opened.proofs.Openings.{openingIn}
 use Rattle.opened.specs.declared.table.Table.{Table}
 use Rattle.opened.proofs.table.Table as T₀
 use Rattle.opened.proofs.table.Table.Laws as T₀′
