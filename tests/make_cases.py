@@ -1,13 +1,15 @@
 #!/usr/bin/env python3
 """Writes the input of the test program `cases` and what it has to write, the latter by oracle.py. Run it in this folder."""
 import random
+import re
+from math import prod
 
-from oracle import (bytes_of, fields, printout, read, Refused, scored_ways, show_filter, show_read, show_score, show_search, show_sweep, word)
+from oracle import (bytes_of, fields, printout, read, Refused, scored_ways, show_filter, show_read, show_score, show_search, show_sweep, word, words_of)
 
 A = [0x11002000, 0x20000000, 0x30400802, 0x20800000, 0x30C0300A, 0x40C00800, 0x40801000, 0x40400803, 0x40002003]
 B = [0x10801000, 0x20000000, 0x3040380A, 0x40400800, 0x40001000]
 
-lines, answers = [], []
+lines, answers, cases = [], [], []
 
 
 def note(text):
@@ -27,6 +29,7 @@ def marks_of(plan):
 def case(label, service, text, answer):
     lines.append(f"{label}: {service} {text}".rstrip())
     answers.append(f"{label}:{answer}")
+    cases.append((label, service, text, answer))
 
 
 def file_of(data):
@@ -473,6 +476,60 @@ for i in range(60):
     runs(f"job, made {i}", [word(5, rng.randint(0, 4), 0, rng.randint(0, 100))] + made(rng.randint(1, 9), rng.randint(1, 16)))
 for i in range(60):
     runs(f"job, shared {i}", [word(5, rng.randint(0, 4), 0, rng.randint(0, 100))] + layered(rng.randint(3, 10), rng.randint(4, 24)))
+
+
+def on_opened_tables(chosen):
+    """The same requests by the upper-case letters, which open the file first; the answers are the same."""
+    for label, service, text, answer in list(chosen):
+        case(f"opened, {label}", service.upper(), text, answer)
+
+
+def first_refusals():
+    """Of each service and number of a refusal the first two cases."""
+    found = {}
+    for c in services:
+        number = re.match(r" refused (\d+)", c[3])
+        if number:
+            found.setdefault((c[1], number[1]), []).append(c)
+    return [c for of_one in found.values() for c in of_one[:2]]
+
+
+services = [c for c in cases if c[1] != "j"]
+printed = [text_of(bytes_of(t)) for t in (A, B)]
+of_both = [c for c in services if c[2].split(" | ")[0] in printed]
+note("Requests of opened tables, of A and B")
+on_opened_tables(c for c in of_both if c[1] in "rsw")
+on_opened_tables([c for c in of_both if c[1] in "fp"][::7])
+note("Requests of opened tables, of each service every refusal")
+on_opened_tables(first_refusals())
+note("Requests of opened tables that are answered")
+on_opened_tables([c for c in services if not c[3].startswith(" refused")][::20])
+
+note("A table that is hard for check 18 (hard_table.rs). Every record stands for the last event, so that all plans score the same and nothing is cut")
+hard = bytes.fromhex(open("hard_table.hex").read())
+shares = [fields(w)[2:] for w in words_of(hard)[1:61] if w >> 28 == 3]
+assert all((hi, lo) == (1, 0) if k == 0 else hi > 1 and lo > 1 for k, (_, _, hi, lo) in enumerate(map(fields, words_of(hard)[61:])))
+scale = prod(b for _, b in shares)
+alike = scale // shares[-1][1] * shares[-1][0]
+
+
+def uncut(n, kits):
+    """The visits with n open lines and such room where no branch is cut."""
+    return 1 if n == 0 or kits < 0 else 1 + uncut(n - 1, kits - 1) + uncut(n - 1, kits)
+
+
+case("hard, read", "r", text_of(hard), f" table 60 254 20 {scale}")
+for plan in ([1] * 20, [2] * 20, [1, 2] * 10):
+    case(f"hard, score {marks_of(plan)}", "s", text_of(hard, marks_of(plan)), f" score {alike}")
+for plan in ([0] * 20, [1, 0, 2, 0] * 5):
+    numbers = "".join(f" {m}" for m in plan)
+    case(f"hard, sweep {marks_of(plan)}", "w", text_of(hard, marks_of(plan), "20"), f" top {alike}, drops" + " 0" * 20)
+    case(f"hard, filter {marks_of(plan)}, 42", "f", text_of(hard, marks_of(plan), "20, 42"), f" forced 0, plan{numbers}")
+    case(f"hard, filter {marks_of(plan)}, 43", "f", text_of(hard, marks_of(plan), "20, 43"), " refused 31 0, plan" + " 7" * 20)
+case("hard, search, kits 3", "p", text_of(hard, "0" * 20, "20, 42, 3"), f" score {alike} visits {uncut(20, 3)}, plan" + " 2" * 20)
+case("hard, search, kits 20", "p", text_of(hard, "0" * 20, "20, 42, 20"), f" score {alike} visits {2 ** 21 - 1}, plan" + " 2" * 20)
+case("hard, job", "j", text_of(bytes_of([word(5, 3, 0, 42)]) + hard),
+     f"\nchoices 20 scale {scale}\nkits 0 score {alike} visits {uncut(20, 3)}\n" + "".join(f"{i} left\n" for i in range(20)))
 
 with open("../crates/cases/stdin", "w") as out:
     out.write("\n".join(lines) + "\n")

@@ -4,8 +4,11 @@
 // a job of the program), the file's bytes in hexadecimal, after a bar the plan's marks, a digit each, and after another bar
 // the size of the lent buffer and, each after a comma, the percentage and the kits; spaces count for nothing. The label is
 // written back, then the answer, and then the lent buffer, in which every place is 7 to begin with; of a job what it prints.
-// A line without a colon is written back as it is.
+// A line without a colon is written back as it is. With an upper-case letter (R, S, W, F, P) the file is opened, and the
+// service asked of the opened table.
 use diagram::Refusal;
+use opened::Opening;
+use opened::State;
 use reading::ReadAnswer;
 use scoring::ScoreAnswer;
 use search::SearchAnswer;
@@ -76,55 +79,91 @@ fn run(line: Line, file: &[u8], plan: &[u8]) {
     match service {
         b'r' => show_reading(reading::read(file)),
         b's' => show_score(scoring::score(file, plan)),
-        b'w' => run_sweep(file, plan, line.size),
-        b'f' => run_filter(file, plan, line.percent, line.size),
-        b'p' => run_search(file, plan, line.kits, line.percent, line.size),
+        b'w' => run_sweep(file, plan, line.size, false),
+        b'f' => run_filter(file, plan, line.percent, line.size, false),
+        b'p' => run_search(file, plan, line.kits, line.percent, line.size, false),
         b'j' => run_job(file),
+        b'R' => show_opening(opened::open_and_read(file)),
+        b'S' => show_score(opened::open_and_score(file, plan)),
+        b'W' => run_sweep(file, plan, line.size, true),
+        b'F' => run_filter(file, plan, line.percent, line.size, true),
+        b'P' => run_search(file, plan, line.kits, line.percent, line.size, true),
         _ => show_text(b" no such service"),
     }
     show_text(b"\n");
 }
 
-// Runs the sweep on a buffer of a given size.
-fn run_sweep(file: &[u8], plan: &[u8], size: u32) {
+// Runs the sweep on a buffer of a given size, of an opened table or of a file.
+fn run_sweep(file: &[u8], plan: &[u8], size: u32, opened: bool) {
     let mut drops = [7u64; 24];
     let n = at_most_24(size);
-    sweep_into(file, plan, &mut drops[..n]);
+    sweep_into(file, plan, &mut drops[..n], opened);
 }
 
 // Runs the sweep, and writes what it answers and leaves in the buffer.
-fn sweep_into(file: &[u8], plan: &[u8], drops: &mut [u64]) {
-    show_sweep(sweep::sweep(file, plan, drops));
+fn sweep_into(file: &[u8], plan: &[u8], drops: &mut [u64], opened: bool) {
+    show_sweep(swept(file, plan, drops, opened));
     show_text(b", drops");
     show_numbers(drops);
 }
 
-// Runs the filter on a buffer of a given size.
-fn run_filter(file: &[u8], plan: &[u8], percent: u32, size: u32) {
+// What the sweep answers of an opened table, or of a file.
+fn swept(file: &[u8], plan: &[u8], drops: &mut [u64], opened: bool) -> SweepAnswer {
+    if opened {
+        return opened::open_and_sweep(file, plan, drops);
+    }
+    sweep::sweep(file, plan, drops)
+}
+
+// Runs the filter on a buffer of a given size, of an opened table or of a file.
+fn run_filter(file: &[u8], plan: &[u8], percent: u32, size: u32, opened: bool) {
     let mut out = [7u8; 24];
     let n = at_most_24(size);
-    filter_into(file, plan, percent, &mut out[..n]);
+    filter_into(file, plan, percent, &mut out[..n], opened);
 }
 
 // Runs the filter, and writes what it answers and leaves in the buffer.
-fn filter_into(file: &[u8], plan: &[u8], percent: u32, out: &mut [u8]) {
-    show_filter(sweep::filter(file, plan, percent, out));
+fn filter_into(file: &[u8], plan: &[u8], percent: u32, out: &mut [u8], opened: bool) {
+    show_filter(filtered(file, plan, percent, out, opened));
     show_text(b", plan");
     show_marks(out);
 }
 
-// Runs the search on a buffer of a given size.
-fn run_search(file: &[u8], plan: &[u8], kits: u32, percent: u32, size: u32) {
+// What the filter answers of an opened table, or of a file.
+fn filtered(file: &[u8], plan: &[u8], percent: u32, out: &mut [u8], opened: bool) -> FilterAnswer {
+    if opened {
+        return opened::open_and_filter(file, plan, percent, out);
+    }
+    sweep::filter(file, plan, percent, out)
+}
+
+// Runs the search on a buffer of a given size, of an opened table or of a file.
+fn run_search(file: &[u8], plan: &[u8], kits: u32, percent: u32, size: u32, opened: bool) {
     let mut out = [7u8; 24];
     let n = at_most_24(size);
-    search_into(file, plan, kits, percent, &mut out[..n]);
+    search_into(file, plan, kits, percent, &mut out[..n], opened);
 }
 
 // Runs the search, and writes what it answers and leaves in the buffer.
-fn search_into(file: &[u8], plan: &[u8], kits: u32, percent: u32, out: &mut [u8]) {
-    show_search(search::search(file, plan, kits, percent, out));
+fn search_into(file: &[u8], plan: &[u8], kits: u32, percent: u32, out: &mut [u8], opened: bool) {
+    show_search(searched(file, plan, kits, percent, out, opened));
     show_text(b", plan");
     show_marks(out);
+}
+
+// What the search answers of an opened table, or of a file.
+fn searched(
+    file: &[u8],
+    plan: &[u8],
+    kits: u32,
+    percent: u32,
+    out: &mut [u8],
+    opened: bool,
+) -> SearchAnswer {
+    if opened {
+        return opened::open_and_search(file, plan, kits, percent, out);
+    }
+    search::search(file, plan, kits, percent, out)
 }
 
 // Runs the program's own function on an input, and writes what it prints on lines of its own.
@@ -336,15 +375,33 @@ fn show_marks(marks: &[u8]) {
 
 fn show_reading(answer: ReadAnswer) {
     match answer {
-        ReadAnswer::Table(t) => {
-            show_text(b" table");
-            show_number(t.variables as u64);
-            show_number(t.records as u64);
-            show_number(t.choices as u64);
-            show_number(t.scale);
-        }
+        ReadAnswer::Table(t) => show_table(t.variables, t.records, t.choices, t.scale),
         ReadAnswer::Refused(r) => show_refusal(r),
     }
+}
+
+fn show_opening(opening: Opening) {
+    let state = opening.state;
+    match state {
+        State::Accepted => {
+            show_table(
+                opening.variables,
+                opening.records,
+                opening.choices,
+                opening.scale,
+            )
+        }
+        State::Refused(r) => show_refusal(r),
+    }
+}
+
+// V, N, the number of choices and B of a table.
+fn show_table(variables: usize, records: usize, choices: usize, scale: u64) {
+    show_text(b" table");
+    show_number(variables as u64);
+    show_number(records as u64);
+    show_number(choices as u64);
+    show_number(scale);
 }
 
 fn show_score(answer: ScoreAnswer) {

@@ -1,4 +1,4 @@
--- What the answer of `read` makes of an opening. Assumes nothing.
+-- What the answer of `read` makes of an opening, and an opened table's own. Assumes nothing.
 use Prim.Native.Nat.{ℕ}
 use mathlib.Core.Path.{_≡_, refl, sym}
 use mathlib.Core.List.{List}
@@ -9,7 +9,13 @@ use Rattle.reading.specs.declared.answer.ReadAnswer.{ReadAnswer}
 use Rattle.reading.specs.Answer.{outcomeOf}
 use Rattle.opened.specs.declared.table.State.the-variants.{Accepted, Refused}
 use Rattle.opened.specs.declared.table.Opening.{Opening}
+use Rattle.opened.specs.declared.table.Table.{Table}
 use Rattle.opened.specs.Answer.{stateOf, openingOf, openingFor}
+
+-- the opening that an opened table has in it
+abbrev pub openingIn : Table → Opening
+openingIn t =
+    record { variables = t .variables; records = t .records; choices = t .choices; scale = t .scale; state = t .state }
 
 -- an opening promises an outcome
 abbrev pub Opens : Opening → Outcome Reading → Type 0

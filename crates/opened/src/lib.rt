@@ -1,14 +1,20 @@
 // An opened table: a struct that refers to the handed-in bytes and copies none of them, and each service on it. A service hands
 // the bytes to the function of the same name over slices, which makes every check itself.
+mod request;
 mod table;
 
 use reading::ReadAnswer;
 use reading::read;
+pub use request::open_and_filter;
+pub use request::open_and_read;
+pub use request::open_and_score;
+pub use request::open_and_search;
+pub use request::open_and_sweep;
 use scoring::ScoreAnswer;
 use search::SearchAnswer;
 use sweep::FilterAnswer;
 use sweep::SweepAnswer;
-use table::Opening;
+pub use table::Opening;
 pub use table::State;
 pub use table::Table;
 ghost use mathlib.Core.Path.{_≡_};

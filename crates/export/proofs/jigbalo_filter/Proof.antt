@@ -33,7 +33,8 @@ returns-2 : tie.Need-returns-2
 unfolding filterOf
 returns-2 c =
     let o = known-with filterOf (c .before .before .before .before .before .before .before .filter .ensures .0) (c .before .before .before .r .given .1) in
-    (refused-number o (c .refuse .ensures .0), (refused-place o _ (c .refuse .ensures .1), (refused-value o _ _, c .before .before .before .before .before .before .before .filter .ensures .1)))
+    let held = c .before .before .before .before .before .before .before .before .before .before .before .before .args in
+    (refused-number o (c .refuse .ensures .0), (refused-place o (held .place .now) (c .refuse .ensures .1), (refused-value o _ (held .forced .now), c .before .before .before .before .before .before .before .filter .ensures .1)))
 
 pub jigbalo-filter-spec : {M : Type 1} → statement M
 jigbalo-filter-spec =

@@ -27,7 +27,8 @@ returns-2 : tie.Need-returns-2
 unfolding outcomeOf
 returns-2 c =
     let o = known outcomeOf (c .before .before .before .before .before .score .ensures) (c .before .before .before .r .given .1) in
-    (refused-number o (c .refuse .ensures .0), (refused-place o _ (c .refuse .ensures .1), refused-value o _ _))
+    let held = c .before .before .before .before .before .before .before .before .args in
+    (refused-number o (c .refuse .ensures .0), (refused-place o (held .place .now) (c .refuse .ensures .1), refused-value o _ (held .score .now)))
 
 pub jigbalo-score-spec : {M : Type 1} → statement M
 jigbalo-score-spec =

@@ -33,7 +33,8 @@ returns-2 : tie.Need-returns-2
 unfolding sweepOf
 returns-2 c =
     let o = known-with sweepOf (c .before .before .before .before .before .before .before .sweep .ensures .0) (c .before .before .before .r .given .1) in
-    (refused-number o (c .refuse .ensures .0), (refused-place o _ (c .refuse .ensures .1), (refused-value o _ _, c .before .before .before .before .before .before .before .sweep .ensures .1)))
+    let held = c .before .before .before .before .before .before .before .before .before .before .before .before .args in
+    (refused-number o (c .refuse .ensures .0), (refused-place o (held .place .now) (c .refuse .ensures .1), (refused-value o _ (held .top .now), c .before .before .before .before .before .before .before .sweep .ensures .1)))
 
 pub jigbalo-sweep-spec : {M : Type 1} → statement M
 jigbalo-sweep-spec =

@@ -17,7 +17,7 @@ use ghost.Atoms.{Atoms, sem}
 use contract.Lifetimes.{Lfts, Shares}
 use contract.Monad.{Fun, fact, factI}
 use contract.Running.{givenOf, tables, tablesOf}
-use types.Kit.{Given, ‵, raw, given, _⊛_, some, later, _$_, _∵_, !, qed, move, drop, use0, use1, use2, split, join, learn, pick, rewrite, fsplit, fjoin, suffices, frame, await, done}
+use types.Kit.{Given, ‵, raw, given, _⊛_, some, later, _$_, _∵_, !, qed, by, move, drop, use0, use1, use2, split, join, learn, pick, rewrite, fsplit, fjoin, suffices, frame, await, done}
 use types.Run.{look, init, forget, stop, fld, from, load, and-then, no-more, assigns, land, returns, enter, alloc1, alloc0, params1, pass1, pass0, free1, free0}
 use types.Part.{agg, whole, sub, look-in}
 use sound.WpLaws.{FmC, fmOf, WpFn-mono}
@@ -38,11 +38,12 @@ use denote.Triple.Call.{calls-at}
 use denote.Triple.Entry.{Args, Vals, onEntry}
 use denote.Triple.Spec.{Meets, tripleOf}
 use denote.Triple.Table.{entered, cited}
-use denote.Triple.Clauses.{ensured, lasts}
+use denote.Triple.Clauses.{ensured, lasts, atExit}
 use denote.Triple.Walked.{Stays, stay-none-slice, walkOf, goes-none-slice, Walks, ends-at, walked, walk-meets}
 use denote.Exit.{yes}
+use Rattle.opened.proofs.Promises.{both}
 use Rattle.diagram.specs.Services.{readOutcome}
-use Rattle.opened.specs.Answer.{openingOf, openingFor, openedOf, tableWith}
+use Rattle.opened.specs.Answer.{openingOf, openingFor, tableWith}
 use Rattle.opened.specs.declared.table.Opening.{Opening}
 use Rattle.opened.proofs.table.Opening as T₀
 use Rattle.opened.proofs.table.Opening.Laws as T₀′
@@ -100,6 +101,10 @@ module _ {M : Type 1} (𝓤 : URA M) (H : Heap 𝓤) (A : Atoms 𝓤) (W : Given
   asked : ent 𝓤 (onEntry 𝓤 H A core.signature κs qs core-arg core-vals) (Core 𝓤 H A at-mem run .pre to)
   asked = qed W ((‵ (flft κ₀ q₀) ⊛ ‵ ftrue) ∷ ‵ (owns (ShrSlice (named 0) κ₀ u8 ∷ []) core-arg core-vals) ∷ []) ∵ join ! $ frame ! $ done !
 
+  -- what is promised, clause by clause
+  promised : (r : Opening) → openingOf r ≡ readOutcome (now bytes) → r ≡ openingFor (readOutcome (now bytes)) → ent 𝓤 (emp 𝓤) (me.clauses 𝓤 H A at-mem run κs arg .ensures tt (record { bytes = bytes; variables = r .variables; records = r .records; choices = r .choices; scale = r .scale; state = r .state }) (atExit me.ended κs arg (tt, tt)))
+  promised r e₀ e₁ = both 𝓤 (factI 𝓤 _ (emp 𝓤) (e₀)) (factI 𝓤 _ (emp 𝓤) (ap (tableWith bytes) e₁))
+
   said : (r : Opening) → ent 𝓤 (ensured 𝓤 H A core.ended (core.clauses 𝓤 H A at-mem run) κs core-arg tt r) (sep 𝓤 (fact 𝓤 (openingOf r ≡ readOutcome (now bytes))) (fact 𝓤 (r ≡ openingFor (readOutcome (now bytes)))))
   said r = exE 𝓤 _ (λ ws. snd∗ 𝓤 (sem 𝓤 H A (lasts core.ended κs core-arg ws)) (sep 𝓤 (fact 𝓤 (openingOf r ≡ readOutcome (now bytes))) (fact 𝓤 (r ≡ openingFor (readOutcome (now bytes))))))
 
@@ -139,9 +144,8 @@ module _ {M : Type 1} (𝓤 : URA M) (H : Heap 𝓤) (A : Atoms 𝓤) (W : Given
         returns ! (look ! 7 refl) $ forget ! 7 refl $ forget ! 5 refl $ forget ! 3 refl $ move ! (7 ∷ 8 ∷ []) $ free1 ! $ move ! (5 ∷ 6 ∷ []) $ free1 ! $
         move ! (3 ∷ 4 ∷ []) $ free1 ! $ free0 ! $
         suffices ! _ (ends-at 𝓤 H A me.ended stayed (me.clauses 𝓤 H A at-mem run) W ((κs, qs, tt, arg, vals), tt) (vstruct (spelled (made-type .parts) (made-laws) (bytes, (r .variables, (r .records, (r .choices, (r .scale, (r .state, tt)))))))) (record { bytes = bytes; variables = r .variables; records = r .records; choices = r .choices; scale = r .scale; state = r .state }) (tt, tt) (tt, tt)) $
-        use0 W (raw (fact 𝓤 (tableWith bytes r ≡ tableWith bytes (openingFor (readOutcome (now bytes)))))) (factI 𝓤 (tableWith bytes r ≡ tableWith bytes (openingFor (readOutcome (now bytes)))) (emp 𝓤) (ap (tableWith bytes) e₁)) $
-        use0 W (raw (fact 𝓤 (openedOf (tableWith bytes r) ≡ readOutcome (now bytes)))) (factI 𝓤 (openedOf (tableWith bytes r) ≡ readOutcome (now bytes)) (emp 𝓤) (e₀)) $
-        nothing ! $ move ! (4 ∷ 0 ∷ []) $ fjoin ! $ nothing ! $ move ! (5 ∷ 0 ∷ []) $ join ! $ move ! (1 ∷ 4 ∷ []) $ join ! $ move ! (1 ∷ 0 ∷ []) $ join ! $
+        use0 W (raw (me.clauses 𝓤 H A at-mem run κs arg .ensures tt (record { bytes = bytes; variables = r .variables; records = r .records; choices = r .choices; scale = r .scale; state = r .state }) (atExit me.ended κs arg (tt, tt)))) (promised r e₀ e₁) $
+        nothing ! $ move ! (3 ∷ 0 ∷ []) $ fjoin ! $ nothing ! $ move ! (4 ∷ 0 ∷ []) $ join ! $ move ! (1 ∷ 3 ∷ []) $ join ! $ move ! (1 ∷ 0 ∷ []) $ join ! $
         done !))))))))))
 
 module _ {M : Type 1} (𝓤 : URA M) (H : Heap 𝓤) (A : Atoms 𝓤) (W : Given 𝓤 H A) (at-mem : Memory → SProp 𝓤) (run : Routine → Fun 𝓤) where

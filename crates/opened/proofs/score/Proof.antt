@@ -17,7 +17,7 @@ use ghost.Atoms.{Atoms, sem}
 use contract.Lifetimes.{Lfts, Shares}
 use contract.Monad.{Fun, fact, factI}
 use contract.Running.{givenOf, tables, tablesOf}
-use types.Kit.{Given, ‵, raw, given, _⊛_, some, later, _$_, _∵_, !, qed, move, drop, use0, use1, use2, split, join, learn, pick, fsplit, fjoin, suffices, frame, await, done}
+use types.Kit.{Given, ‵, raw, given, _⊛_, some, later, _$_, _∵_, !, qed, by, move, drop, use0, use1, use2, split, join, learn, pick, fsplit, fjoin, suffices, frame, await, done}
 use types.Run.{look, init, forget, stop, fld, from, load, of-opd, and-then, no-more, assigns, land, returns, enter, alloc1, alloc0, params1, pass1, pass0, free1, free0}
 use types.Part.{whole, sub, look-in}
 use sound.WpLaws.{FmC, fmOf, WpFn-mono}
@@ -37,7 +37,7 @@ use denote.Triple.Call.{calls-at}
 use denote.Triple.Entry.{Args, Vals, onEntry}
 use denote.Triple.Spec.{Meets, tripleOf}
 use denote.Triple.Table.{entered, cited}
-use denote.Triple.Clauses.{ensured, lasts}
+use denote.Triple.Clauses.{ensured, lasts, atExit}
 use denote.Triple.Walked.{Stays, stay-none, stay-none-slice, walkOf, goes-none, goes-none-slice, Walks, ends-at, walked, walk-meets}
 use denote.Exit.{yes}
 use Rattle.diagram.specs.Services.{scoreOutcome}
@@ -103,6 +103,10 @@ module _ {M : Type 1} (𝓤 : URA M) (H : Heap 𝓤) (A : Atoms 𝓤) (W : Given
   asked : ent 𝓤 (onEntry 𝓤 H A core.signature κs qs core-arg core-vals) (Core 𝓤 H A at-mem run .pre to)
   asked = qed W ((‵ (flft κ₀ q₀) ⊛ ‵ (flft κ₁ q₁) ⊛ ‵ ftrue) ∷ ‵ (owns (ShrSlice (named 0) κ₀ u8 ∷ ShrSlice (named 1) κ₁ u8 ∷ []) core-arg core-vals) ∷ []) ∵ join ! $ frame ! $ done !
 
+  -- what is promised, clause by clause
+  promised : (r : ScoreAnswer) → outcomeOf r ≡ scoreOutcome (now (t .bytes)) (now plan) → ent 𝓤 (emp 𝓤) (me.clauses 𝓤 H A at-mem run κs arg .ensures tt (r) (atExit me.ended κs arg (tt, (tt, tt))))
+  promised r e₀ = factI 𝓤 _ (emp 𝓤) (e₀)
+
   said : (r : ScoreAnswer) → ent 𝓤 (ensured 𝓤 H A core.ended (core.clauses 𝓤 H A at-mem run) κs core-arg tt r) (fact 𝓤 (outcomeOf r ≡ scoreOutcome (now (t .bytes)) (now plan)))
   said r = exE 𝓤 _ (λ ws. snd∗ 𝓤 (sem 𝓤 H A (lasts core.ended κs core-arg ws)) (fact 𝓤 (outcomeOf r ≡ scoreOutcome (now (t .bytes)) (now plan))))
 
@@ -135,8 +139,8 @@ module _ {M : Type 1} (𝓤 : URA M) (H : Heap 𝓤) (A : Atoms 𝓤) (W : Given
         returns ! (look ! 11 refl) $ forget ! 11 refl $ forget ! 9 refl $ forget ! 7 refl $ forget ! 5 refl $ move ! (11 ∷ 12 ∷ []) $ free1 ! $
         move ! (9 ∷ 10 ∷ []) $ free1 ! $ move ! (7 ∷ 8 ∷ []) $ free1 ! $ move ! (5 ∷ 6 ∷ []) $ free1 ! $ free0 ! $
         suffices ! _ (ends-at 𝓤 H A me.ended stayed (me.clauses 𝓤 H A at-mem run) W ((κs, qs, tt, arg, vals), tt) (u) (r) (tt, (tt, tt)) (tt, (tt, tt))) $
-        use0 W (raw (fact 𝓤 (outcomeOf r ≡ scoreOutcome (now (t .bytes)) (now plan)))) (factI 𝓤 (outcomeOf r ≡ scoreOutcome (now (t .bytes)) (now plan)) (emp 𝓤) (e₀)) $
-        nothing ! $ move ! (5 ∷ 0 ∷ []) $ fjoin ! $ move ! (5 ∷ 0 ∷ []) $ fjoin ! $ nothing ! $ move ! (4 ∷ 0 ∷ []) $ join ! $ move ! (4 ∷ 0 ∷ []) $ join ! $
+        use0 W (raw (me.clauses 𝓤 H A at-mem run κs arg .ensures tt (r) (atExit me.ended κs arg (tt, (tt, tt))))) (promised r e₀) $ nothing ! $
+        move ! (5 ∷ 0 ∷ []) $ fjoin ! $ move ! (5 ∷ 0 ∷ []) $ fjoin ! $ nothing ! $ move ! (4 ∷ 0 ∷ []) $ join ! $ move ! (4 ∷ 0 ∷ []) $ join ! $
         move ! (1 ∷ 3 ∷ []) $ join ! $ move ! (1 ∷ 0 ∷ []) $ join ! $ done !)))))))))
 
 module _ {M : Type 1} (𝓤 : URA M) (H : Heap 𝓤) (A : Atoms 𝓤) (W : Given 𝓤 H A) (at-mem : Memory → SProp 𝓤) (run : Routine → Fun 𝓤) where

@@ -17,7 +17,7 @@ use ghost.Atoms.{Atoms}
 use contract.Lifetimes.{Lfts, Shares}
 use contract.Monad.{Fun, fact, factI}
 use contract.Running.{givenOf, tables, tablesOf}
-use types.Kit.{Given, ‵, raw, given, _⊛_, some, later, _$_, _∵_, !, qed, move, drop, use0, use1, use2, split, join, learn, pick, fsplit, fjoin, feqL, suffices, frame, await, done}
+use types.Kit.{Given, ‵, raw, given, _⊛_, some, later, _$_, _∵_, !, qed, by, move, drop, use0, use1, use2, split, join, learn, pick, fsplit, fjoin, feqL, suffices, frame, await, done}
 use types.Run.{look, init, forget, stop, hop, fld, from, load, addr, of-opd, and-then, no-more, assigns, land, returns, enter, alloc1, alloc0, params1, pass1, pass0, free1, free0}
 use types.Part.{agg, whole, sub, look-in}
 use sound.WpLaws.{FmC, fmOf, WpFn-mono}
@@ -38,9 +38,10 @@ use denote.Triple.Call.{calls-at}
 use denote.Triple.Entry.{Args, Vals, onEntry}
 use denote.Triple.Spec.{Meets, tripleOf}
 use denote.Triple.Table.{entered, cited}
-use denote.Triple.Clauses.{ensured, lasts}
+use denote.Triple.Clauses.{ensured, lasts, atExit}
 use denote.Triple.Walked.{Stays, stay-none, stay-none-slice, gave-slice, walkOf, goes-none, goes-none-slice, goes-gave-slice, Walks, ends-at, walked, walk-meets}
 use denote.Exit.{yes}
+use Rattle.opened.proofs.Promises.{both}
 use Rattle.diagram.specs.Plans.{openCount}
 use Rattle.diagram.specs.Services.{searchOutcome, searchBuffer}
 use Rattle.search.specs.Answer.{searchOf, visitsOf}
@@ -111,6 +112,10 @@ module _ {M : Type 1} (𝓤 : URA M) (H : Heap 𝓤) (A : Atoms 𝓤) (W : Given
   asked : ent 𝓤 (onEntry 𝓤 H A core.signature κs qs core-arg core-vals) (Core 𝓤 H A at-mem run .pre to)
   asked = qed W ((‵ (flft κ₀ q₀) ⊛ ‵ (flft κ₁ q₁) ⊛ ‵ (flft κ₂ q₂) ⊛ ‵ ftrue) ∷ ‵ (owns (ShrSlice (named 0) κ₀ u8 ∷ ShrSlice (named 1) κ₁ u8 ∷ u32 ∷ u32 ∷ MutSlice (named 2) κ₂ u8 ∷ []) core-arg core-vals) ∷ []) ∵ join ! $ frame ! $ done !
 
+  -- what is promised, clause by clause
+  promised : (r : SearchAnswer) (zs : Unit {0} × (Unit {0} × (Unit {0} × (Unit {0} × (List ℕ × (Unit {0})))))) → searchOf r (zs .1 .1 .1 .1 .0) ≡ searchOutcome (now (t .bytes)) (now plan) budget percent (length out) → zs .1 .1 .1 .1 .0 ≡ searchBuffer (now (t .bytes)) (now plan) budget percent out → visitsOf r + 1 ≤ 2 ^ suc (openCount (now plan)) → ent 𝓤 (emp 𝓤) (me.clauses 𝓤 H A at-mem run κs arg .ensures tt (r) (atExit me.ended κs arg (tt, (tt, (tt, (tt, (zs .1 .1 .1 .1 .0, tt)))))))
+  promised r zs e₀ e₁ e₂ = both 𝓤 (factI 𝓤 _ (emp 𝓤) (e₀)) (both 𝓤 (factI 𝓤 _ (emp 𝓤) (e₁)) (factI 𝓤 _ (emp 𝓤) (e₂)))
+
   module _ (t-wt : Holds (hasTy (T₀′.mir (named 0)) (t-val)) × WT (t-val)) (plan-is : Is (ShrSlice (named 1) κ₁ u8) plan (plan-val ∷ [])) (budget-fits : budget < 2 ^ 32) (percent-fits : percent < 2 ^ 32) (out-room : Room u8 (length out)) (C : Calls 𝓤 H) (Λ : Loops 𝓤 H) (fm : FmC 𝓤 H (W .laws) C) (known : Triple 𝓤 (C #search·search) (Core 𝓤 H A at-mem run)) where
     walk : ent 𝓤 (onEntry 𝓤 H A me.signature κs qs arg vals) (WpFn 𝓤 H C Λ code.function (t-val ∷ plan-val ∷ vint w32 budget ∷ vint w32 percent ∷ out-val ∷ []) Post)
     walk =
@@ -154,12 +159,10 @@ module _ {M : Type 1} (𝓤 : URA M) (H : Heap 𝓤) (A : Atoms 𝓤) (W : Given
         free1 ! $ move ! (17 ∷ 18 ∷ []) $ free1 ! $ move ! (15 ∷ 16 ∷ []) $ free1 ! $ move ! (13 ∷ 14 ∷ []) $ free1 ! $ move ! (11 ∷ 12 ∷ []) $ free1 ! $
         move ! (9 ∷ 10 ∷ []) $ free1 ! $ move ! (7 ∷ 8 ∷ []) $ free1 ! $ free0 ! $
         suffices ! _ (ends-at 𝓤 H A me.ended stayed (me.clauses 𝓤 H A at-mem run) W ((κs, qs, tt, arg, vals), tt) (u) (r) (tt, (tt, (tt, (tt, (zs .1 .1 .1 .1 .0, tt))))) (tt, (tt, (tt, (tt, (out-len, tt)))))) $
-        use0 W (raw (fact 𝓤 (visitsOf r + 1 ≤ 2 ^ suc (openCount (now plan))))) (factI 𝓤 (visitsOf r + 1 ≤ 2 ^ suc (openCount (now plan))) (emp 𝓤) (e₂)) $
-        use0 W (raw (fact 𝓤 (zs .1 .1 .1 .1 .0 ≡ searchBuffer (now (t .bytes)) (now plan) budget percent out))) (factI 𝓤 (zs .1 .1 .1 .1 .0 ≡ searchBuffer (now (t .bytes)) (now plan) budget percent out) (emp 𝓤) (e₁)) $
-        use0 W (raw (fact 𝓤 (searchOf r (zs .1 .1 .1 .1 .0) ≡ searchOutcome (now (t .bytes)) (now plan) budget percent (length out)))) (factI 𝓤 (searchOf r (zs .1 .1 .1 .1 .0) ≡ searchOutcome (now (t .bytes)) (now plan) budget percent (length out)) (emp 𝓤) (e₀)) $
-        nothing ! $ move ! (8 ∷ 0 ∷ []) $ fjoin ! $ owned ! u32 (Is u32) (uint-makes 𝓤 H A W w32) percent _ (refl, percent-fits) $ fjoin ! $
-        owned ! u32 (Is u32) (uint-makes 𝓤 H A W w32) budget _ (refl, budget-fits) $ fjoin ! $ move ! (8 ∷ 0 ∷ []) $ fjoin ! $ move ! (8 ∷ 0 ∷ []) $ fjoin ! $
-        nothing ! $ move ! (6 ∷ 0 ∷ []) $ join ! $ move ! (6 ∷ 0 ∷ []) $ join ! $ move ! (6 ∷ 0 ∷ []) $ join ! $ move ! (1 ∷ 5 ∷ []) $ join ! $
+        use0 W (raw (me.clauses 𝓤 H A at-mem run κs arg .ensures tt (r) (atExit me.ended κs arg (tt, (tt, (tt, (tt, (zs .1 .1 .1 .1 .0, tt)))))))) (promised r zs e₀ e₁ e₂) $
+        nothing ! $ move ! (6 ∷ 0 ∷ []) $ fjoin ! $ owned ! u32 (Is u32) (uint-makes 𝓤 H A W w32) percent _ (refl, percent-fits) $ fjoin ! $
+        owned ! u32 (Is u32) (uint-makes 𝓤 H A W w32) budget _ (refl, budget-fits) $ fjoin ! $ move ! (6 ∷ 0 ∷ []) $ fjoin ! $ move ! (6 ∷ 0 ∷ []) $ fjoin ! $
+        nothing ! $ move ! (4 ∷ 0 ∷ []) $ join ! $ move ! (4 ∷ 0 ∷ []) $ join ! $ move ! (4 ∷ 0 ∷ []) $ join ! $ move ! (1 ∷ 3 ∷ []) $ join ! $
         move ! (1 ∷ 0 ∷ []) $ join ! $ done !))))))))))))))))))
 
 module _ {M : Type 1} (𝓤 : URA M) (H : Heap 𝓤) (A : Atoms 𝓤) (W : Given 𝓤 H A) (at-mem : Memory → SProp 𝓤) (run : Routine → Fun 𝓤) where

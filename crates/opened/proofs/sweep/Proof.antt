@@ -17,7 +17,7 @@ use ghost.Atoms.{Atoms}
 use contract.Lifetimes.{Lfts, Shares}
 use contract.Monad.{Fun, fact, factI}
 use contract.Running.{givenOf, tables, tablesOf}
-use types.Kit.{Given, ‵, raw, given, _⊛_, some, later, _$_, _∵_, !, qed, move, drop, use0, use1, use2, split, join, learn, pick, fsplit, fjoin, feqL, suffices, frame, await, done}
+use types.Kit.{Given, ‵, raw, given, _⊛_, some, later, _$_, _∵_, !, qed, by, move, drop, use0, use1, use2, split, join, learn, pick, fsplit, fjoin, feqL, suffices, frame, await, done}
 use types.Run.{look, init, forget, stop, hop, fld, from, load, addr, of-opd, and-then, no-more, assigns, land, returns, enter, alloc1, alloc0, params1, pass1, pass0, free1, free0}
 use types.Part.{agg, whole, sub, look-in}
 use sound.WpLaws.{FmC, fmOf, WpFn-mono}
@@ -37,9 +37,10 @@ use denote.Triple.Call.{calls-at}
 use denote.Triple.Entry.{Args, Vals, onEntry}
 use denote.Triple.Spec.{Meets, tripleOf}
 use denote.Triple.Table.{entered, cited}
-use denote.Triple.Clauses.{ensured, lasts}
+use denote.Triple.Clauses.{ensured, lasts, atExit}
 use denote.Triple.Walked.{Stays, stay-none, stay-none-slice, gave-slice, walkOf, goes-none, goes-none-slice, goes-gave-slice, Walks, ends-at, walked, walk-meets}
 use denote.Exit.{yes}
+use Rattle.opened.proofs.Promises.{both}
 use Rattle.diagram.specs.Services.{sweepOutcome, sweepBuffer}
 use Rattle.sweep.specs.Answer.{sweepOf}
 use Rattle.opened.specs.declared.table.Table.{Table}
@@ -109,6 +110,10 @@ module _ {M : Type 1} (𝓤 : URA M) (H : Heap 𝓤) (A : Atoms 𝓤) (W : Given
   asked : ent 𝓤 (onEntry 𝓤 H A core.signature κs qs core-arg core-vals) (Core 𝓤 H A at-mem run .pre to)
   asked = qed W ((‵ (flft κ₀ q₀) ⊛ ‵ (flft κ₁ q₁) ⊛ ‵ (flft κ₂ q₂) ⊛ ‵ ftrue) ∷ ‵ (owns (ShrSlice (named 0) κ₀ u8 ∷ ShrSlice (named 1) κ₁ u8 ∷ MutSlice (named 2) κ₂ u64 ∷ []) core-arg core-vals) ∷ []) ∵ join ! $ frame ! $ done !
 
+  -- what is promised, clause by clause
+  promised : (r : SweepAnswer) (zs : Unit {0} × (Unit {0} × (List ℕ × (Unit {0})))) → sweepOf r (zs .1 .1 .0) ≡ sweepOutcome (now (t .bytes)) (now plan) (length drops) → zs .1 .1 .0 ≡ sweepBuffer (now (t .bytes)) (now plan) drops → ent 𝓤 (emp 𝓤) (me.clauses 𝓤 H A at-mem run κs arg .ensures tt (r) (atExit me.ended κs arg (tt, (tt, (zs .1 .1 .0, tt)))))
+  promised r zs e₀ e₁ = both 𝓤 (factI 𝓤 _ (emp 𝓤) (e₀)) (factI 𝓤 _ (emp 𝓤) (e₁))
+
   module _ (t-wt : Holds (hasTy (T₀′.mir (named 0)) (t-val)) × WT (t-val)) (plan-is : Is (ShrSlice (named 1) κ₁ u8) plan (plan-val ∷ [])) (drops-room : Room u64 (length drops)) (C : Calls 𝓤 H) (Λ : Loops 𝓤 H) (fm : FmC 𝓤 H (W .laws) C) (known : Triple 𝓤 (C #sweep·sweep) (Core 𝓤 H A at-mem run)) where
     walk : ent 𝓤 (onEntry 𝓤 H A me.signature κs qs arg vals) (WpFn 𝓤 H C Λ code.function (t-val ∷ plan-val ∷ drops-val ∷ []) Post)
     walk =
@@ -146,10 +151,9 @@ module _ {M : Type 1} (𝓤 : URA M) (H : Heap 𝓤) (A : Atoms 𝓤) (W : Given
         forget ! 7 refl $ move ! (19 ∷ 20 ∷ []) $ free1 ! $ move ! (17 ∷ 18 ∷ []) $ free1 ! $ move ! (15 ∷ 16 ∷ []) $ free1 ! $ move ! (13 ∷ 14 ∷ []) $
         free1 ! $ move ! (11 ∷ 12 ∷ []) $ free1 ! $ move ! (9 ∷ 10 ∷ []) $ free1 ! $ move ! (7 ∷ 8 ∷ []) $ free1 ! $ free0 ! $
         suffices ! _ (ends-at 𝓤 H A me.ended stayed (me.clauses 𝓤 H A at-mem run) W ((κs, qs, tt, arg, vals), tt) (u) (r) (tt, (tt, (zs .1 .1 .0, tt))) (tt, (tt, (drops-len, tt)))) $
-        use0 W (raw (fact 𝓤 (zs .1 .1 .0 ≡ sweepBuffer (now (t .bytes)) (now plan) drops))) (factI 𝓤 (zs .1 .1 .0 ≡ sweepBuffer (now (t .bytes)) (now plan) drops) (emp 𝓤) (e₁)) $
-        use0 W (raw (fact 𝓤 (sweepOf r (zs .1 .1 .0) ≡ sweepOutcome (now (t .bytes)) (now plan) (length drops)))) (factI 𝓤 (sweepOf r (zs .1 .1 .0) ≡ sweepOutcome (now (t .bytes)) (now plan) (length drops)) (emp 𝓤) (e₀)) $
-        nothing ! $ move ! (7 ∷ 0 ∷ []) $ fjoin ! $ move ! (7 ∷ 0 ∷ []) $ fjoin ! $ move ! (7 ∷ 0 ∷ []) $ fjoin ! $ nothing ! $ move ! (5 ∷ 0 ∷ []) $ join ! $
-        move ! (5 ∷ 0 ∷ []) $ join ! $ move ! (5 ∷ 0 ∷ []) $ join ! $ move ! (1 ∷ 4 ∷ []) $ join ! $ move ! (1 ∷ 0 ∷ []) $ join ! $ done !)))))))))))))))
+        use0 W (raw (me.clauses 𝓤 H A at-mem run κs arg .ensures tt (r) (atExit me.ended κs arg (tt, (tt, (zs .1 .1 .0, tt)))))) (promised r zs e₀ e₁) $
+        nothing ! $ move ! (6 ∷ 0 ∷ []) $ fjoin ! $ move ! (6 ∷ 0 ∷ []) $ fjoin ! $ move ! (6 ∷ 0 ∷ []) $ fjoin ! $ nothing ! $ move ! (4 ∷ 0 ∷ []) $ join ! $
+        move ! (4 ∷ 0 ∷ []) $ join ! $ move ! (4 ∷ 0 ∷ []) $ join ! $ move ! (1 ∷ 3 ∷ []) $ join ! $ move ! (1 ∷ 0 ∷ []) $ join ! $ done !)))))))))))))))
 
 module _ {M : Type 1} (𝓤 : URA M) (H : Heap 𝓤) (A : Atoms 𝓤) (W : Given 𝓤 H A) (at-mem : Memory → SProp 𝓤) (run : Routine → Fun 𝓤) where
   me-walks : (C : Calls 𝓤 H) (Λ : Loops 𝓤 H) → FmC 𝓤 H (W .laws) C → Triple 𝓤 (C #sweep·sweep) (Core 𝓤 H A at-mem run) → Walks 𝓤 H A me.ended stayed (WpFn 𝓤 H C Λ code.function) (me.clauses 𝓤 H A at-mem run)

@@ -85,18 +85,15 @@ write-requires c κs =
     let ok = request-proper (c .before .before .before .before .before .before .before .before .before .before) in
     (held-long _ _ (c .before .before .before .before .before .before .before .before .before .before .before .before .before .before .before .before .before .before .before .before .args .out .now) _ _ _ (request-answered (c .before .before .before .before .before .before .before .before .before .before)) (explored (c .before .before .before)) (c .before .before .if1 .left), omega (arith, ok .sized, passed-choices (ok .passed)))
 
-array-read-t21 : tie.Need-array-read-t21
-array-read-t21 c = search needs
-
-array-read-t38 : tie.Need-array-read-t38
-array-read-t38 c = search needs
+tallied-requires : tie.Need-tallied-requires
+tallied-requires c κs = search needs
 
 same-length : tie.Need-same-length
 same-length c = search needs
 
 returns-3 : tie.Need-returns-3
 returns-3 c =
-    search-found _ _ _ _ _ _ (request-answered (c .before .before .before .before .before .before .before .before .before .before .before .before .before)) (explored (c .before .before .before .before .before .before)) (c .before .before .before .before .before .if1 .left) (c .before .before .write .ensures) refl refl
+    search-found _ _ _ _ _ _ (request-answered (c .before .before .before .before .before .before .before .before .before .before .before .before .before .before .before)) (explored (c .before .before .before .before .before .before .before .before)) (c .before .before .before .before .before .before .before .if1 .left) (c .before .before .before .before .write .ensures) (c .tallied .ensures .0) (c .tallied .ensures .1)
 
 pub search-spec : {M : Type 1} → statement M
 search-spec =
@@ -111,7 +108,6 @@ search-spec =
     array-read-if1
     returns-2
     write-requires
-    array-read-t21
-    array-read-t38
+    tallied-requires
     same-length
     returns-3)

@@ -1,9 +1,18 @@
 -- `word_at` meets its contract: four bytes of the file make its word, and past the last whole word it is 0. Assumes nothing.
+use Prim.Native.Nat.{ℕ, _+_, _*_, _<_, _/_}
+use mathlib.Core.Path.{_≡_, refl}
+use mathlib.Core.List.{List}
+use lib.ListN.{length, getD}
 use borrow.Author.Tests.{lt-ltb, le-ltb}
 use Rattle.diagram.specs.Words.{wordAt}
 use borrow.Author.Needs.{needs}
 use Rattle.diagram.proofs.word.word_at.Statement.{statement}
 use Rattle.diagram.proofs.word.word_at.Tie as tie
+
+-- four bytes make a whole word
+word-is : (s : List ℕ) (i : ℕ) → i < length s / 4 → {r a b c d : ℕ} → r ≡ a * 16777216 + b * 65536 + c * 256 + d → a ≡ getD s (4 * i) 0 → b ≡ getD s (4 * i + 1) 0 → c ≡ getD s (4 * i + 2) 0 → d ≡ getD s (4 * i + 3) 0 → r ≡ wordAt s i
+unfolding wordAt
+word-is s i h e ea eb ec ed = rw (e, ea, eb, ec, ed, lt-ltb i (length s / 4) h) refl
 
 mul-at : tie.Need-mul-at
 mul-at c = search needs
@@ -33,8 +42,9 @@ joined-requires : tie.Need-joined-requires
 joined-requires c κs = search needs
 
 returns : tie.Need-returns
-unfolding wordAt
-returns c = simp (lt-ltb _ _ (c .before .before .before .before .before .if1 .taken)) (c .joined .ensures)
+returns c =
+    let a = c .before .before .before .before .before .before .before .args in
+    word-is (a .file .now) (a .i) (c .before .before .before .before .before .if1 .taken) (c .joined .ensures) refl refl refl refl
 
 returns-2 : tie.Need-returns-2
 unfolding wordAt
