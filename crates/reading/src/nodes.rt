@@ -45,7 +45,7 @@ fn set_ends(cells: &mut [u8; 256], x: u8)
 }
 
 // Writes the cell of record k's node.
-fn store(cells: &mut [u8; 256], k: usize, x: u32)
+pub fn store(cells: &mut [u8; 256], k: usize, x: u32)
     requires { ⌜ (k < 254) × (x < 256) ⌝ }
     ensures { λ _. ⌜ now (cells .exit) ≡ set (now (cells .entry)) (k + 2) x ⌝ }
 {
