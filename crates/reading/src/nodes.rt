@@ -9,7 +9,6 @@ use diagram::word_at;
 ghost use mathlib.Core.Path.{_≡_};
 ghost use Prim.Native.Nat.{_+_, _<_};
 ghost use lib.ListN.{length, getD, set};
-ghost use Rattle.diagram.specs.Words.{wordAt, fieldP, fieldQ, fieldR};
 ghost use Rattle.diagram.specs.Table.{Record, tableOf, variableCount};
 ghost use Rattle.reading.specs.Nodes.{column, Shaped};
 

@@ -1,6 +1,7 @@
 // A table in arrays, laid out once for all plans.
 use crate::arcs::arc_weights;
 use crate::arcs::products;
+use crate::arcs::shares_by_position;
 use diagram::Node;
 use diagram::Position;
 use reading::position_of;
@@ -31,16 +32,9 @@ pub fn lay_out(
     ensures weight { λ r. ⌜ r ≡ gap (tableOf (now (file .entry))) 0 (place (tableOf (now (file .entry))) (root (tableOf (now (file .entry))))) ⌝ }
 {
     let products = products(file);
-    arc_weights(
-        file,
-        n,
-        &products,
-        positions,
-        high,
-        low,
-        high_arcs,
-        low_arcs,
-    );
+    let shares = shares_by_position(file);
+    arc_weights(n, &products, &shares.high, positions, high, high_arcs);
+    arc_weights(n, &products, &shares.low, positions, low, low_arcs);
     root_weight(&products, position_of(positions, Node::of_record(n - 1)))
 }
 
