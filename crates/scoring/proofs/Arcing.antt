@@ -21,10 +21,10 @@ use Rattle.reading.specs.Nodes.{column}
 use Rattle.reading.proofs.Counting.{variables-length}
 use Rattle.reading.proofs.Columns.{front-position}
 use Rattle.reading.proofs.Pairing.{column-at, variable-at}
-use Rattle.reading.proofs.Accepted.{passed-variables, passed-records, passed-formed, passed-shares, passed-scale}
+use Rattle.reading.proofs.Accepted.{passed-variables, passed-formed, passed-shares, passed-scale}
 use Rattle.scoring.specs.Value.{place, gap, variableAt, highShare, lowShare, highArc, lowArc}
 use Rattle.scoring.specs.Passes.{over, byNode, products, sharesBy, highShares, lowShares, arcWeight, Weighable, Decoded}
-use Rattle.scoring.proofs.Over.{over-ends, byNode-length, over-byNode, byNode-same}
+use Rattle.scoring.proofs.Over.{over-ends, byNode-length, over-byNode}
 use Rattle.scoring.proofs.Values.{gap-scale, shares-drop, shares-sum}
 
 -- ---------------------------------------------------------------------------
@@ -178,14 +178,14 @@ suffix-shares t x h l m =
     let first = drop-cons (t .variables) x (chance 0 1) l in
     rw (first, add-one) (shares-sum (rw first at (shares-drop h x)) m)
 
--- the weight of record k's arc can be computed from the arrays, and is the number
-pub record Weighs (qs ss ps cs : List ℕ) (k arc : ℕ) : Type 0 where
-  pub weighable : Weighable qs ss ps cs k
-  pub weight : arcWeight qs ss ps cs k ≡ arc
+-- the weight of node n's arc can be computed from the arrays, and is the number
+pub record Weighs (qs ss ps cs : List ℕ) (n arc : ℕ) : Type 0 where
+  pub weighable : Weighable qs ss ps cs n
+  pub weight : arcWeight qs ss ps cs n ≡ arc
 
 module _ {s ps hs ls qs : List ℕ} (passed : Passed s) (d : Decoded s ps hs ls) (held : qs ≡ products (tableOf s)) (k : ℕ) (few : k < 254) where
   -- an arc to child n
-  arc-weighs : {ss cs : List ℕ} (share : Variable → ℕ) (n : ℕ) → let x = recordAt (tableOf s .records) k .position in let own = share (variableAt (tableOf s) k) in ss ≡ sharesBy share (tableOf s) → getD cs (k + 2) 0 ≡ n → n < k + 2 → x < place (tableOf s) n → own * suffix s (x + 1) ≤ suffix s x → Weighs qs ss ps cs k (own * gap (tableOf s) (x + 1) (place (tableOf s) n))
+  arc-weighs : {ss cs : List ℕ} (share : Variable → ℕ) (n : ℕ) → let x = recordAt (tableOf s .records) k .position in let own = share (variableAt (tableOf s) k) in ss ≡ sharesBy share (tableOf s) → getD cs (k + 2) 0 ≡ n → n < k + 2 → x < place (tableOf s) n → own * suffix s (x + 1) ≤ suffix s x → Weighs qs ss ps cs (k + 2) (own * gap (tableOf s) (x + 1) (place (tableOf s) n))
   unfolding place arcWeight variableAt
   arc-weighs {ss} {cs} share n read child small later fit =
       let t = tableOf s in
@@ -198,7 +198,7 @@ module _ {s ps hs ls qs : List ℕ} (passed : Passed s) (d : Decoded s ps hs ls)
       let to : getD ps (getD cs (k + 2) 0) 0 ≡ y = rw (child, d .positions, ← variables-length s) (column-position (length (t .variables)) (t .records) n (omega arith)) in
       let shares : getD ss x 0 ≡ own = rw read (shares-at share t x (omega arith)) in
       let quotient = suffix-gap t (x + 1) y (passed-shares passed) (omega arith) within in
-      let weight : arcWeight qs ss ps cs k ≡ own * gap t (x + 1) y = rw (from, to, shares, held, products-at t (x + 1) (omega arith), products-at t y (omega arith), quotient) in
+      let weight : arcWeight qs ss ps cs (k + 2) ≡ own * gap t (x + 1) y = rw (from, to, shares, held, products-at t (x + 1) (omega arith), products-at t y (omega arith), quotient) in
       record {
         weighable = record {
           from = rw from (omega arith);
@@ -209,28 +209,16 @@ module _ {s ps hs ls qs : List ℕ} (passed : Passed s) (d : Decoded s ps hs ls)
         weight = weight;
       }
 
-  pub high-weighs : {ss : List ℕ} → ss ≡ highShares (tableOf s) → Weighs qs ss ps hs k (highArc (tableOf s) k)
+  pub high-weighs : {ss : List ℕ} → ss ≡ highShares (tableOf s) → Weighs qs ss ps hs (k + 2) (highArc (tableOf s) k)
   unfolding highArc variableAt place
   high-weighs read =
       let formed = passed-formed passed in
       let shares = suffix-shares (tableOf s) _ (passed-shares passed) (position-less formed k) 1 in
       arc-weighs (λ v. highShare v 1) _ read (rw (d .high) (column-at _ _ _ k few)) (formed .hiLess k) (formed .hiLater k) (omega arith)
 
-  pub low-weighs : {ss : List ℕ} → ss ≡ lowShares (tableOf s) → Weighs qs ss ps ls k (lowArc (tableOf s) k)
+  pub low-weighs : {ss : List ℕ} → ss ≡ lowShares (tableOf s) → Weighs qs ss ps ls (k + 2) (lowArc (tableOf s) k)
   unfolding lowArc variableAt place
   low-weighs read =
       let formed = passed-formed passed in
       let shares = suffix-shares (tableOf s) _ (passed-shares passed) (position-less formed k) 2 in
       arc-weighs (λ v. lowShare v 2) _ read (rw (d .low) (column-at _ _ _ k few)) (formed .loLess k) (formed .loLater k) (omega arith)
-
--- the weights of a file's arcs of one kind, all of them
-module _ {s qs ss ps cs : List ℕ} {f : ℕ → ℕ} (passed : Passed s) (n : ℕ) (size : n ≡ length (tableOf s .records)) (weighs : (k : ℕ) → k < 254 → Weighs qs ss ps cs k (f k)) where
-  pub all-weighable : (n ≤ 254) × ((k : ℕ) → k < n → Weighable qs ss ps cs k)
-  all-weighable =
-      let few = passed-records passed in
-      (omega (arith, size), λ k l. weighs k (omega (arith, size)) .weighable)
-
-  pub all-weights : {arcs : List ℕ} (old : List ℕ) → arcs ≡ over (byNode (arcWeight qs ss ps cs) n) old → arcs ≡ over (byNode f n) old
-  all-weights old e =
-      let few = passed-records passed in
-      e ∙ ap (λ (l : List ℕ). over l old) (byNode-same (arcWeight qs ss ps cs) f n (λ k l. weighs k (omega (arith, size)) .weight))

@@ -1,10 +1,10 @@
 -- A list written over the front of another, element after element, and lists by node number so written.
 -- Assumes nothing.
-use Prim.Native.Nat.{ℕ, zero, suc, _+_, _≤_, _<_}
+use Prim.Native.Nat.{ℕ, suc, _+_, _≤_, _<_}
 use native.Mathlib.Nat.{zero-add}
 use native.Mathlib.Numerals.{add-one}
 use native.Mathlib.Omega.{arith}
-use mathlib.Core.Path.{_≡_, refl, ap, ap₂, sym, _∙_}
+use mathlib.Core.Path.{_≡_, ap, _∙_}
 use mathlib.Core.List.{List, [], _∷_, _++_}
 use lib.ListN.{length, getD, set, drop, length-append, length-drop, List·getD-append}
 use lib.Seq.{drop-cons, append-snoc, set-at, drop-set-lt}
@@ -60,10 +60,3 @@ module _ (f : ℕ → ℕ) where
   over-at old n k h =
       let two : k + 2 ≡ suc (suc k) = omega arith in
       over-getD (0 ∷ 0 ∷ sequence f 0 n) old (k + 2) (omega (arith, sequence-length f 0 n)) ∙ rw (two, sequence-at f 0 n k 0 h) (ap f (zero-add k))
-
--- equal numbers make equal lists
-pub byNode-same : (f g : ℕ → ℕ) (n : ℕ) → ((k : ℕ) → k < n → f k ≡ g k) → byNode f n ≡ byNode g n
-unfolding byNode sequence
-byNode-same f g zero h = refl
-byNode-same f g (suc n) h =
-    sym (byNode-snoc f n) ∙ ap₂ (λ (l : List ℕ) (x : ℕ). l ++ (x ∷ [])) (byNode-same f g n (λ k l. h k (omega arith))) (h n (omega arith)) ∙ byNode-snoc g n

@@ -38,18 +38,17 @@ highShares t = sharesBy (λ v. highShare v 1) t
 abbrev pub lowShares : Table → List ℕ
 lowShares t = sharesBy (λ v. lowShare v 2) t
 
--- The weight of record k's arc to the child that `children` has: its share, times the quotient of the products after the record
--- and at the child
-unfoldable pub arcWeight : (products shares positions children : List ℕ) → (k : ℕ) → ℕ
-arcWeight qs ss ps cs k =
-    getD ss (getD ps (k + 2) 0) 0 * (getD qs (getD ps (k + 2) 0 + 1) 0 / getD qs (getD ps (getD cs (k + 2) 0) 0) 0)
+-- The weight of node n's arc to the child that `children` has: its share, times the quotient of the products after the node and at the child
+unfoldable pub arcWeight : (products shares positions children : List ℕ) → (n : ℕ) → ℕ
+arcWeight qs ss ps cs n =
+    getD ss (getD ps n 0) 0 * (getD qs (getD ps n 0 + 1) 0 / getD qs (getD ps (getD cs n 0) 0) 0)
 
 -- The arrays have what that weight is computed from, and it stays within 2^56
-pub record Weighable (qs ss ps cs : List ℕ) (k : ℕ) : Type 0 where
-  pub from : getD ps (k + 2) 0 < 63
-  pub to : getD ps (getD cs (k + 2) 0) 0 < 64
-  pub positive : 0 < getD qs (getD ps (getD cs (k + 2) 0) 0) 0
-  pub fits : arcWeight qs ss ps cs k ≤ 2 ^ 56
+pub record Weighable (qs ss ps cs : List ℕ) (n : ℕ) : Type 0 where
+  pub from : getD ps n 0 < 63
+  pub to : getD ps (getD cs n 0) 0 < 64
+  pub positive : 0 < getD qs (getD ps (getD cs n 0) 0) 0
+  pub fits : arcWeight qs ss ps cs n ≤ 2 ^ 56
 
 -- The arrays that `reading::read_records` fills hold the file's records
 pub record Decoded (s ps hs ls : List ℕ) : Type 0 where

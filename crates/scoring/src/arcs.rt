@@ -11,14 +11,14 @@ use reading::position_of;
 use reading::variable_count;
 ghost use mathlib.Core.Path.{_≡_};
 ghost use mathlib.Core.List.{[], _∷_};
-ghost use Prim.Native.Nat.{ℕ, _+_, _*_, _/_, _≤_, _<_, _^_};
-ghost use lib.ListN.{length, getD};
+ghost use Prim.Native.Nat.{_+_, _*_, _/_, _≤_, _<_, _^_};
+ghost use lib.ListN.{getD};
 ghost use Rattle.diagram.specs.Table.{tableOf, variableOf, scaleOf};
 ghost use Rattle.diagram.specs.Words.{wordAt};
 ghost use Rattle.diagram.proofs.Checked.{Passed};
 ghost use Rattle.scoring.specs.Value.{highShare, lowShare};
 ghost use Rattle.scoring.specs.Passes as passes;
-ghost use Rattle.scoring.specs.Passes.{over, byNode, highShares, lowShares, arcWeight, Weighable};
+ghost use Rattle.scoring.specs.Passes.{highShares, lowShares, arcWeight, Weighable};
 
 // The product of b from each position on. The file has passed every check.
 pub fn products(file: &[u8]) -> [u64; 64]
@@ -71,30 +71,21 @@ pub fn shares_by_position(file: &[u8]) -> Shares
     Shares { high, low }
 }
 
-// The weights of the hi arcs, or of the lo arcs, of the first n records, from the products, the shares of these arcs, and the
-// children that they lead to.
-pub fn arc_weights(
-    n: usize,
+// The weight of a record's hi arc, or of its lo arc, from the products, the shares of these arcs, and the children that they
+// lead to.
+pub fn arc_weight(
     products: &[u64; 64],
     shares: &[u64; 64],
     positions: &[u8; 256],
     children: &[u8; 256],
-    arcs: &mut [u64; 256],
-)
-    requires weighable { ⌜ (n ≤ 254) × ((k : ℕ) → k < n → Weighable (now products) (now shares) (now positions) (now children) k) ⌝ }
-    requires size { ⌜ length (now arcs) ≡ 256 ⌝ }
-    ensures { λ _. ⌜ now (arcs .exit) ≡ over (byNode (arcWeight (now (products .entry)) (now (shares .entry)) (now (positions .entry)) (now (children .entry))) n) (now (arcs .entry)) ⌝ }
+    node: Node,
+) -> u64
+    requires { ⌜ Weighable (now products) (now shares) (now positions) (now children) (node .0) ⌝ }
+    ensures { λ r. ⌜ r ≡ arcWeight (now (products .entry)) (now (shares .entry)) (now (positions .entry)) (now (children .entry)) (node .0) ⌝ }
 {
-    arcs[0] = 0;
-    arcs[1] = 0;
-    let mut k = 0;
-    while k < n {
-        let node = Node::of_record(k);
-        let at = position_of(positions, node);
-        let to = position_of(positions, child_of(children, node));
-        arcs[k + 2] = arc(products, share_at(shares, at), at, to);
-        k += 1;
-    }
+    let at = position_of(positions, node);
+    let to = position_of(positions, child_of(children, node));
+    arc(products, share_at(shares, at), at, to)
 }
 
 // The share at a position.

@@ -1,5 +1,5 @@
 // A table in arrays, laid out once for all plans.
-use crate::arcs::arc_weights;
+use crate::arcs::arc_weight;
 use crate::arcs::products;
 use crate::arcs::shares_by_position;
 use diagram::Node;
@@ -33,8 +33,17 @@ pub fn lay_out(
 {
     let products = products(file);
     let shares = shares_by_position(file);
-    arc_weights(n, &products, &shares.high, positions, high, high_arcs);
-    arc_weights(n, &products, &shares.low, positions, low, low_arcs);
+    high_arcs[0] = 0;
+    high_arcs[1] = 0;
+    low_arcs[0] = 0;
+    low_arcs[1] = 0;
+    let mut k = 0;
+    while k < n {
+        let node = Node::of_record(k);
+        high_arcs[k + 2] = arc_weight(&products, &shares.high, positions, high, node);
+        low_arcs[k + 2] = arc_weight(&products, &shares.low, positions, low, node);
+        k += 1;
+    }
     root_weight(&products, position_of(positions, Node::of_record(n - 1)))
 }
 
