@@ -1,15 +1,17 @@
 -- An array by node number that is filled cell by cell, the two ends first and then record after record.
 -- Assumes nothing.
-use Prim.Native.Nat.{ℕ, suc, _+_, _<_}
+use Prim.Native.Nat.{ℕ, zero, suc, _+_, _<_}
 use native.Mathlib.Nat.{zero-add}
 use native.Mathlib.Numerals.{add-one}
 use native.Mathlib.Omega.{arith}
 use mathlib.Core.Path.{_≡_, refl, ap, sym, _∙_}
 use mathlib.Core.List.{List, [], _∷_}
-use lib.ListN.{length, set, take, length-set}
-use lib.Seq.{take-all, take-suc-set}
-use Rattle.diagram.specs.Table.{sequence}
-use Rattle.diagram.proofs.Places.{sequence-snoc}
+use lib.ListN.{length, getD, set, take, replicate, length-set}
+use lib.Seq.{take-all, take-suc-set, getD-take}
+use Rattle.diagram.specs.Table.{Record, sequence, recordAt}
+use Rattle.diagram.specs.Checks.{positionOf}
+use Rattle.diagram.proofs.Places.{sequence-at, sequence-snoc}
+use Rattle.reading.specs.Nodes.{Placed}
 
 -- the two ends' cells and those of the first k records
 pub record Filled (end : ℕ) (f : ℕ → ℕ) (cells : List ℕ) (k : ℕ) : Type 0 where
@@ -25,6 +27,11 @@ fill-ends {end} {f} {cells} before x h e y = rw (e, y) (ends before h)
     ends (a ∷ []) h = absurd (omega arith)
     ends (a ∷ b ∷ l) h = record { size = h; front = refl }
 
+-- an array that holds the ends' number everywhere has it in their cells
+pub fill-alike : {end : ℕ} {f : ℕ → ℕ} (x : ℕ) → x ≡ end → Filled end f (replicate 256 x) 0
+unfolding sequence
+fill-alike x y = rw y (record { size = refl; front = refl })
+
 pub fill-next : {end : ℕ} {f : ℕ → ℕ} {cells before : List ℕ} {k : ℕ} (x : ℕ) → Filled end f before k → k < 254 → cells ≡ set before (k + 2) x → x ≡ f k → Filled end f cells (k + 1)
 fill-next {end} {f} {cells} {before} {k} x filled h e y =
     let on : k + 1 + 2 ≡ suc (k + 2) = omega arith in
@@ -38,3 +45,17 @@ pub fill-all : {end : ℕ} {f : ℕ → ℕ} {cells : List ℕ} → Filled end f
 fill-all {cells} filled =
     let long = filled .size in
     sym (take-all 256 cells (omega arith)) ∙ filled .front
+
+-- ---------------------------------------------------------------------------
+-- The array of positions
+
+module _ (v : ℕ) (rs : List Record) where
+  pub front-position : (k n : ℕ) → n < k + 2 → getD (v ∷ v ∷ sequence (λ i. recordAt rs i .position) 0 k) n 0 ≡ positionOf v rs n
+  unfolding positionOf
+  front-position k zero h = refl
+  front-position k (suc zero) h = refl
+  front-position k (suc (suc n)) h = sequence-at (λ i. recordAt rs i .position) 0 k n 0 (omega arith) ∙ rw zero-add
+
+  pub filled-placed : {cells : List ℕ} {k : ℕ} → Filled v (λ i. recordAt rs i .position) cells k → Placed v rs cells k
+  filled-placed {cells} {k} filled =
+      record { at = λ n h. sym (getD-take (k + 2) cells n 0 h) ∙ ap (λ (l : List ℕ). getD l n 0) (filled .front) ∙ front-position k n h }

@@ -1,6 +1,6 @@
 -- What the checks 12, 13 and 17 say of a file's heading and records, and what a file's words are past its end.
 -- Assumes nothing.
-use Prim.Native.Nat.{ℕ, zero, suc, _+_, _-_, _*_, _/_, _≤_, _<_}
+use Prim.Native.Nat.{ℕ, _+_, _-_, _*_, _/_, _≤_, _<_}
 use native.Mathlib.Decide.{decLt}
 use native.Mathlib.Omega.{arith}
 use mathlib.Core.Path.{_≡_, refl, ap, sym, _∙_}
@@ -124,18 +124,3 @@ shaped-formed s h =
       hiLater = λ k. shaped-children s h k .0 .1;
       loLater = λ k. shaped-children s h k .1 .1;
     }
-
--- ---------------------------------------------------------------------------
--- Positions
-
-pub end-position : (v : ℕ) (rs : List Record) (n : ℕ) → n < 2 → positionOf v rs n ≡ v
-unfolding positionOf
-end-position v rs zero h = refl
-end-position v rs (suc zero) h = refl
-end-position v rs (suc (suc k)) h = absurd (omega arith)
-
-pub record-position : (s : List ℕ) (k : ℕ) → k < recordCount s → positionOf (variableCount s) (tableOf s .records) (k + 2) ≡ fieldP (wordAt s (1 + variableCount s + k))
-unfolding positionOf recordOf
-record-position s k h =
-    let e : k + 2 ≡ suc (suc k) = omega arith in
-    rw e (ap (λ (r : Record). r .position) (record-at-word s k h))

@@ -9,7 +9,7 @@ use lib.ListN.{length, getD}
 use lib.Dec.{eqb, leb}
 use Rattle.diagram.specs.Table.{Record, sequence, recordAt, tableOf, variableCount}
 use Rattle.diagram.specs.Score.{implies}
-use Rattle.diagram.specs.Checks.{headingFault, countFault, recordFault, isMonotoneAt}
+use Rattle.diagram.specs.Checks.{headingFault, countFault, recordFault, positionOf, isMonotoneAt}
 use Rattle.diagram.specs.Services.{written}
 use Rattle.diagram.proofs.Truth.{Formed}
 use Rattle.reading.specs.Answer.{shapeOutcome}
@@ -30,6 +30,10 @@ recordsOf ps hs ls =
 -- The position of the ends, which the array of positions has at node 0
 unfoldable pub endOf : (positions : List ℕ) → ℕ
 endOf ps = getD ps 0 0
+
+-- The array has the positions of the two ends and of the first k records
+pub record Placed (v : ℕ) (rs : List Record) (ps : List ℕ) (k : ℕ) : Type 0 where
+  pub at : (n : ℕ) → n < k + 2 → getD ps n 0 ≡ positionOf v rs n
 
 -- A file that the checks up to 17 let through, as far as its records go
 pub record Shaped (s : List ℕ) : Type 0 where

@@ -9,7 +9,6 @@ use diagram::word_at;
 ghost use mathlib.Core.Path.{_≡_};
 ghost use Prim.Native.Nat.{_+_, _<_};
 ghost use lib.ListN.{length, getD, set};
-ghost use Rattle.diagram.specs.Words.{wordAt, fieldP, fieldQ, fieldR};
 ghost use Rattle.diagram.specs.Table.{Record, tableOf, variableCount};
 ghost use Rattle.reading.specs.Nodes.{column, Shaped};
 
@@ -45,7 +44,7 @@ fn set_ends(cells: &mut [u8; 256], x: u8)
 }
 
 // Writes the cell of record k's node.
-fn store(cells: &mut [u8; 256], k: usize, x: u32)
+pub fn store(cells: &mut [u8; 256], k: usize, x: u32)
     requires { ⌜ (k < 254) × (x < 256) ⌝ }
     ensures { λ _. ⌜ now (cells .exit) ≡ set (now (cells .entry)) (k + 2) x ⌝ }
 {

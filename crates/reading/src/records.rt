@@ -1,5 +1,7 @@
-// Check 17: the record words.
+// Check 17: the record words. The positions of the records passed are kept, since a record's children come before it.
 use crate::answer::Fault;
+use crate::nodes::position_of;
+use crate::nodes::store;
 use crate::words::record_count;
 use crate::words::variable_count;
 use diagram::Node;
@@ -11,35 +13,39 @@ use diagram::kind;
 use diagram::word_at;
 ghost use mathlib.Core.Path.{_≡_};
 ghost use mathlib.Core.Option.{none};
-ghost use Prim.Native.Nat.{_≤_, _<_, _+_};
-ghost use Rattle.diagram.specs.Words.{wordAt};
-ghost use Rattle.diagram.specs.Table.{tableOf, variableCount, recordCount};
-ghost use Rattle.diagram.specs.Checks.{headingFault, recordFault, positionOf, isChild, isRecordWord};
+ghost use mathlib.Core.List.{List};
+ghost use Prim.Native.Nat.{ℕ, _<_};
+ghost use Rattle.diagram.specs.Table.{Record};
+ghost use Rattle.diagram.specs.Checks.{headingFault, recordFault, isChild, isRecordWord};
 ghost use Rattle.reading.specs.Answer.{faultOf};
+ghost use Rattle.reading.specs.Nodes.{Placed};
 
 // Check 17. That the heading is right, check 12 has shown.
 pub fn record_fault(file: &[u8]) -> Fault
     requires { ⌜ headingFault (now file) ≡ none ⌝ }
     ensures { λ r. ⌜ r ≡ faultOf (recordFault (now (file .entry))) ⌝ }
 {
-    let end = Position::new(variable_count(file));
+    let v = variable_count(file);
+    let end = Position::new(v);
     let n = record_count(file);
+    let mut positions = [v; 256];
     let mut k = 0;
     while k < n {
-        if !is_record_word(file, end, k) {
+        let w = word_at(file, end.word() + k);
+        if !is_record_word(&positions, end, k, w) {
             return Fault::At(end.word() + k);
         }
+        store(&mut positions, k, field_p(w));
         k += 1;
     }
     Fault::Nowhere
 }
 
-// Whether the word of record k is a record's.
-fn is_record_word(file: &[u8], end: Position, k: usize) -> bool
-    requires { ⌜ (end .0 ≡ variableCount (now file)) × (k < recordCount (now file)) × (recordCount (now file) ≤ 254) ⌝ }
-    ensures { λ r. ⌜ r ≡ isRecordWord (variableCount (now (file .entry))) (tableOf (now (file .entry)) .records) k (wordAt (now (file .entry)) (1 + variableCount (now (file .entry)) + k)) ⌝ }
+// Whether a word is a record's, if it is that of record k and the positions are those of the nodes before it.
+fn is_record_word(positions: &[u8; 256], end: Position, k: usize, w: u32) -> bool
+    requires { ⌜ k < 254 ⌝ }
+    ensures { λ r. ⌜ ((rs : List Record) → Placed (end .0) rs (now (positions .entry)) k → r ≡ isRecordWord (end .0) rs k w) ⌝ }
 {
-    let w = word_at(file, end.word() + k);
     if kind(w) != 4 {
         return false;
     }
@@ -47,32 +53,20 @@ fn is_record_word(file: &[u8], end: Position, k: usize) -> bool
     if end.number() <= at.number() {
         return false;
     }
-    if !is_child(file, end, k, at, field_q(w)) {
+    if !is_child(positions, k, at, field_q(w)) {
         return false;
     }
-    is_child(file, end, k, at, field_r(w))
+    is_child(positions, k, at, field_r(w))
 }
 
 // Whether a field of record k, which stands at a position, names a child of it.
-fn is_child(file: &[u8], end: Position, k: usize, at: Position, child: u32) -> bool
-    requires { ⌜ (end .0 ≡ variableCount (now file)) × (k < recordCount (now file)) × (recordCount (now file) ≤ 254) ⌝ }
-    ensures { λ r. ⌜ r ≡ isChild (variableCount (now (file .entry))) (tableOf (now (file .entry)) .records) k (at .0) child ⌝ }
+fn is_child(positions: &[u8; 256], k: usize, at: Position, child: u32) -> bool
+    requires { ⌜ k < 254 ⌝ }
+    ensures { λ r. ⌜ ((v : ℕ) (rs : List Record) → Placed v rs (now (positions .entry)) k → r ≡ isChild v rs k (at .0) child) ⌝ }
 {
     if k + 2 <= child as usize {
         return false;
     }
     let node = Node::new(child as u8);
-    at.number() < position(file, end, node).number()
-}
-
-// The position of a node: that of its record, and for an end the one after all variables.
-fn position(file: &[u8], end: Position, node: Node) -> Position
-    requires { ⌜ (end .0 ≡ variableCount (now file)) × (node .0 < recordCount (now file) + 2) ⌝ }
-    ensures { λ r. ⌜ r .0 ≡ positionOf (variableCount (now (file .entry))) (tableOf (now (file .entry)) .records) (node .0) ⌝ }
-{
-    let n = node.number();
-    if n < 2 {
-        return end;
-    }
-    Position::new(field_p(word_at(file, end.word() + (n - 2))) as u8)
+    at.number() < position_of(positions, node).number()
 }

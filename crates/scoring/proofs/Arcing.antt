@@ -19,10 +19,11 @@ use Rattle.diagram.proofs.Locality.{position-le, position-less}
 use Rattle.diagram.proofs.FirstVariable.{Shares, no-shares, choice-shares, chance-shares, scale-positive}
 use Rattle.reading.specs.Nodes.{column}
 use Rattle.reading.proofs.Counting.{variables-length}
+use Rattle.reading.proofs.Columns.{front-position}
 use Rattle.reading.proofs.Pairing.{column-at, variable-at}
 use Rattle.reading.proofs.Accepted.{passed-variables, passed-formed, passed-shares, passed-scale}
 use Rattle.scoring.specs.Value.{place, gap, variableAt, highShare, lowShare, highArc, lowArc}
-use Rattle.scoring.specs.Passes.{over, byNode, products, Decoded}
+use Rattle.scoring.specs.Passes.{over, byNode, products, sharesBy, highShares, lowShares, arcWeight, Weighable, Decoded}
 use Rattle.scoring.proofs.Over.{over-ends, byNode-length, over-byNode}
 use Rattle.scoring.proofs.Values.{gap-scale, shares-drop, shares-sum}
 
@@ -149,24 +150,18 @@ suffix-fits h x = omega (arith, suffix-le (passed-shares h) x, passed-scale h)
 -- ---------------------------------------------------------------------------
 -- The weight of an arc
 
--- a share, times the quotient of the products that qs holds for positions i + 1 and j, can be computed and is the arc's weight
-pub record Exact (qs : List ℕ) (i j share arc : ℕ) : Type 0 where
-  pub from : i < 63
-  pub to : j < 64
-  pub positive : 0 < getD qs j 0
-  pub fits : share * (getD qs (i + 1) 0 / getD qs j 0) ≤ 2 ^ 56
-  pub weight : share * (getD qs (i + 1) 0 / getD qs j 0) ≡ arc
-
 -- where node n stands, by an array of positions
 pub column-position : (v : ℕ) (rs : List Record) (n : ℕ) → n < 256 → getD (column v (λ (r : Record). r .position) rs) n 0 ≡ positionOf v rs n
-unfolding column positionOf
-column-position v rs zero h = refl
-column-position v rs (suc zero) h = refl
-column-position v rs (suc (suc k)) h = sequence-at (λ i. recordAt rs i .position) 0 254 k 0 (omega arith) ∙ rw zero-add
+unfolding column
+column-position v rs n h = front-position v rs 254 n h
 
 pub products-at : (t : Table) (x : ℕ) → x < 64 → getD (products t) x 0 ≡ scaleOf (drop x (t .variables))
 unfolding products
 products-at t x h = sequence-at (λ i. scaleOf (drop i (t .variables))) 0 64 x 0 h ∙ rw zero-add
+
+shares-at : (share : Variable → ℕ) (t : Table) (x : ℕ) → x < 64 → getD (sharesBy share t) x 0 ≡ share (getD (t .variables) x (chance 0 1))
+unfolding sharesBy
+shares-at share t x h = sequence-at (λ i. share (getD (t .variables) i (chance 0 1))) 0 64 x 0 h ∙ rw zero-add
 
 -- a share, times b of the variables after position x and before position y, is at most the product from x on
 gap-fits : (t : Table) (x y share : ℕ) → Shares (t .variables) → x < y → y ≤ length (t .variables) → share * scaleOf (drop (x + 1) (t .variables)) ≤ scaleOf (drop x (t .variables)) → share * gap t (x + 1) y ≤ scaleOf (drop x (t .variables))
@@ -183,51 +178,47 @@ suffix-shares t x h l m =
     let first = drop-cons (t .variables) x (chance 0 1) l in
     rw (first, add-one) (shares-sum (rw first at (shares-drop h x)) m)
 
+-- the weight of node n's arc can be computed from the arrays, and is the number
+pub record Weighs (qs ss ps cs : List ℕ) (n arc : ℕ) : Type 0 where
+  pub weighable : Weighable qs ss ps cs n
+  pub weight : arcWeight qs ss ps cs n ≡ arc
+
 module _ {s ps hs ls qs : List ℕ} (passed : Passed s) (d : Decoded s ps hs ls) (held : qs ≡ products (tableOf s)) (k : ℕ) (few : k < 254) where
-  position-at : getD ps (k + 2) 0 ≡ recordAt (tableOf s .records) k .position
-  position-at = rw (d .positions) (column-at _ _ _ k few)
-
-  variable-read : variableOf (wordAt s (1 + getD ps (k + 2) 0)) ≡ variableAt (tableOf s) k
-  unfolding variableAt
-  variable-read =
-      let v = variables-length s in
-      let less = position-less (passed-formed passed) k in
-      rw position-at (sym (variable-at s (recordAt (tableOf s .records) k .position) (omega arith)))
-
-  -- an arc to child n, with the share of the arc
-  arc-exact : (n share : ℕ) → n < k + 2 → recordAt (tableOf s .records) k .position < place (tableOf s) n → share * suffix s (recordAt (tableOf s .records) k .position + 1) ≤ suffix s (recordAt (tableOf s .records) k .position) → Exact qs (getD ps (k + 2) 0) (getD ps n 0) share (share * gap (tableOf s) (recordAt (tableOf s .records) k .position + 1) (place (tableOf s) n))
-  unfolding place
-  arc-exact n share small later fit =
+  -- an arc to child n
+  arc-weighs : {ss cs : List ℕ} (share : Variable → ℕ) (n : ℕ) → let x = recordAt (tableOf s .records) k .position in let own = share (variableAt (tableOf s) k) in ss ≡ sharesBy share (tableOf s) → getD cs (k + 2) 0 ≡ n → n < k + 2 → x < place (tableOf s) n → own * suffix s (x + 1) ≤ suffix s x → Weighs qs ss ps cs (k + 2) (own * gap (tableOf s) (x + 1) (place (tableOf s) n))
+  unfolding place arcWeight variableAt
+  arc-weighs {ss} {cs} share n read child small later fit =
       let t = tableOf s in
       let x = recordAt (t .records) k .position in
       let y = place t n in
+      let own = share (variableAt t k) in
       let v = passed-variables passed in
       let within : y ≤ length (t .variables) = position-le (passed-formed passed) n in
-      let to : getD ps n 0 ≡ y = rw (d .positions, ← variables-length s) (column-position (length (t .variables)) (t .records) n (omega arith)) in
+      let from : getD ps (k + 2) 0 ≡ x = rw (d .positions) (column-at _ _ _ k few) in
+      let to : getD ps (getD cs (k + 2) 0) 0 ≡ y = rw (child, d .positions, ← variables-length s) (column-position (length (t .variables)) (t .records) n (omega arith)) in
+      let shares : getD ss x 0 ≡ own = rw read (shares-at share t x (omega arith)) in
       let quotient = suffix-gap t (x + 1) y (passed-shares passed) (omega arith) within in
-      let weight : share * (getD qs (x + 1) 0 / getD qs y 0) ≡ share * gap t (x + 1) y = rw (held, products-at t (x + 1) (omega arith), products-at t y (omega arith), quotient) in
-      rw (position-at, to) (record {
-        from = omega arith;
-        to = omega arith;
-        positive = rw (held, products-at t y (omega arith)) (scale-positive (shares-drop (passed-shares passed) y));
-        fits = rw weight (omega (arith, gap-fits t x y share (passed-shares passed) later within fit, suffix-fits passed x));
+      let weight : arcWeight qs ss ps cs (k + 2) ≡ own * gap t (x + 1) y = rw (from, to, shares, held, products-at t (x + 1) (omega arith), products-at t y (omega arith), quotient) in
+      record {
+        weighable = record {
+          from = rw from (omega arith);
+          to = rw to (omega arith);
+          positive = rw (to, held, products-at t y (omega arith)) (scale-positive (shares-drop (passed-shares passed) y));
+          fits = rw weight (omega (arith, gap-fits t x y own (passed-shares passed) later within fit, suffix-fits passed x));
+        };
         weight = weight;
-      })
+      }
 
-  pub high-exact : Exact qs (getD ps (k + 2) 0) (getD ps (getD hs (k + 2) 0) 0) (highShare (variableOf (wordAt s (1 + getD ps (k + 2) 0))) 1) (highArc (tableOf s) k)
+  pub high-weighs : {ss : List ℕ} → ss ≡ highShares (tableOf s) → Weighs qs ss ps hs (k + 2) (highArc (tableOf s) k)
   unfolding highArc variableAt place
-  high-exact =
+  high-weighs read =
       let formed = passed-formed passed in
-      let x = recordAt (tableOf s .records) k .position in
-      let shares = suffix-shares (tableOf s) x (passed-shares passed) (position-less formed k) 1 in
-      let child : getD hs (k + 2) 0 ≡ recordAt (tableOf s .records) k .hi = rw (d .high) (column-at _ _ _ k few) in
-      rw (variable-read, child) (arc-exact (recordAt (tableOf s .records) k .hi) (highShare (variableAt (tableOf s) k) 1) (formed .hiLess k) (formed .hiLater k) (omega arith))
+      let shares = suffix-shares (tableOf s) _ (passed-shares passed) (position-less formed k) 1 in
+      arc-weighs (λ v. highShare v 1) _ read (rw (d .high) (column-at _ _ _ k few)) (formed .hiLess k) (formed .hiLater k) (omega arith)
 
-  pub low-exact : Exact qs (getD ps (k + 2) 0) (getD ps (getD ls (k + 2) 0) 0) (lowShare (variableOf (wordAt s (1 + getD ps (k + 2) 0))) 2) (lowArc (tableOf s) k)
+  pub low-weighs : {ss : List ℕ} → ss ≡ lowShares (tableOf s) → Weighs qs ss ps ls (k + 2) (lowArc (tableOf s) k)
   unfolding lowArc variableAt place
-  low-exact =
+  low-weighs read =
       let formed = passed-formed passed in
-      let x = recordAt (tableOf s .records) k .position in
-      let shares = suffix-shares (tableOf s) x (passed-shares passed) (position-less formed k) 2 in
-      let child : getD ls (k + 2) 0 ≡ recordAt (tableOf s .records) k .lo = rw (d .low) (column-at _ _ _ k few) in
-      rw (variable-read, child) (arc-exact (recordAt (tableOf s .records) k .lo) (lowShare (variableAt (tableOf s) k) 2) (formed .loLess k) (formed .loLater k) (omega arith))
+      let shares = suffix-shares (tableOf s) _ (passed-shares passed) (position-less formed k) 2 in
+      arc-weighs (λ v. lowShare v 2) _ read (rw (d .low) (column-at _ _ _ k few)) (formed .loLess k) (formed .loLater k) (omega arith)

@@ -1,15 +1,15 @@
 -- What the arrays of a pass hold. Arrays by node number have the two ends first, arrays by position one entry for each position up to 63.
-use Prim.Native.Nat.{ℕ, zero, suc, _+_, _*_, _≤_, _<_, _^_}
+use Prim.Native.Nat.{ℕ, zero, suc, _+_, _*_, _/_, _≤_, _<_, _^_}
 use mathlib.Core.Path.{_≡_}
 use mathlib.Core.Bool.{cond, _||_}
 use mathlib.Core.List.{List, [], _∷_, _++_}
 use lib.ListN.{length, getD, drop}
 use lib.Dec.{eqb}
-use Rattle.diagram.specs.Table.{Table, Record, chance, sequence, tableOf, variableCount, isChoice, choiceCount, scaleOf}
+use Rattle.diagram.specs.Table.{Variable, Table, Record, chance, sequence, tableOf, variableCount, isChoice, choiceCount, scaleOf}
 use Rattle.diagram.proofs.Truth.{Formed}
 use Rattle.diagram.proofs.FirstVariable.{Shares}
 use Rattle.reading.specs.Nodes.{column}
-use Rattle.scoring.specs.Value.{marksFrom, highArc, lowArc}
+use Rattle.scoring.specs.Value.{marksFrom, highShare, lowShare, highArc, lowArc}
 
 -- A list written over the front of another
 unfoldable pub over : List ℕ → List ℕ → List ℕ
@@ -25,6 +25,30 @@ byNode f n = 0 ∷ 0 ∷ sequence f 0 n
 -- The product of b from each position on
 unfoldable pub products : Table → List ℕ
 products t = sequence (λ x. scaleOf (drop x (t .variables))) 0 64
+
+-- A share of each position's variable; the default counts past the last variable
+unfoldable pub sharesBy : (Variable → ℕ) → Table → List ℕ
+sharesBy share t = sequence (λ x. share (getD (t .variables) x (chance 0 1))) 0 64
+
+-- The shares of the hi arcs at each position
+abbrev pub highShares : Table → List ℕ
+highShares t = sharesBy (λ v. highShare v 1) t
+
+-- The shares of the lo arcs at each position
+abbrev pub lowShares : Table → List ℕ
+lowShares t = sharesBy (λ v. lowShare v 2) t
+
+-- The weight of node n's arc to the child that `children` has: its share, times the quotient of the products after the node and at the child
+unfoldable pub arcWeight : (products shares positions children : List ℕ) → (n : ℕ) → ℕ
+arcWeight qs ss ps cs n =
+    getD ss (getD ps n 0) 0 * (getD qs (getD ps n 0 + 1) 0 / getD qs (getD ps (getD cs n 0) 0) 0)
+
+-- The arrays have what that weight is computed from, and it stays within 2^56
+pub record Weighable (qs ss ps cs : List ℕ) (n : ℕ) : Type 0 where
+  pub from : getD ps n 0 < 63
+  pub to : getD ps (getD cs n 0) 0 < 64
+  pub positive : 0 < getD qs (getD ps (getD cs n 0) 0) 0
+  pub fits : arcWeight qs ss ps cs n ≤ 2 ^ 56
 
 -- The arrays that `reading::read_records` fills hold the file's records
 pub record Decoded (s ps hs ls : List ℕ) : Type 0 where

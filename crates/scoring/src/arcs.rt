@@ -12,13 +12,13 @@ use reading::variable_count;
 ghost use mathlib.Core.Path.{_≡_};
 ghost use mathlib.Core.List.{[], _∷_};
 ghost use Prim.Native.Nat.{_+_, _*_, _/_, _≤_, _<_, _^_};
-ghost use lib.ListN.{length, getD};
-ghost use Rattle.diagram.specs.Table.{Table, tableOf, variableOf, scaleOf};
+ghost use lib.ListN.{getD};
+ghost use Rattle.diagram.specs.Table.{tableOf, variableOf, scaleOf};
 ghost use Rattle.diagram.specs.Words.{wordAt};
 ghost use Rattle.diagram.proofs.Checked.{Passed};
-ghost use Rattle.scoring.specs.Value.{highShare, lowShare, highArc, lowArc};
+ghost use Rattle.scoring.specs.Value.{highShare, lowShare};
 ghost use Rattle.scoring.specs.Passes as passes;
-ghost use Rattle.scoring.specs.Passes.{over, byNode, Decoded};
+ghost use Rattle.scoring.specs.Passes.{highShares, lowShares, arcWeight, Weighable};
 
 // The product of b from each position on. The file has passed every check.
 pub fn products(file: &[u8]) -> [u64; 64]
@@ -47,46 +47,54 @@ fn share_sum(file: &[u8], at: Position) -> u64
     }
 }
 
-// The weights of the arcs of the first n records, n being the table's number of records. The file has passed every check.
-pub fn arc_weights(
-    file: &[u8],
-    n: usize,
-    products: &[u64; 64],
-    positions: &[u8; 256],
-    high: &[u8; 256],
-    low: &[u8; 256],
-    high_arcs: &mut [u64; 256],
-    low_arcs: &mut [u64; 256],
-)
-    requires accepted { ⌜ Passed (now file) ⌝ }
-    requires arrays { ⌜ Decoded (now file) (now positions) (now high) (now low) × (now products ≡ passes.products (tableOf (now file))) ⌝ }
-    requires sizes { ⌜ (n ≡ length (tableOf (now file) .records)) × (length (now «high_arcs») ≡ 256) × (length (now «low_arcs») ≡ 256) ⌝ }
-    ensures high { λ _. ⌜ now («high_arcs» .exit) ≡ over (byNode (highArc (tableOf (now (file .entry)))) n) (now («high_arcs» .entry)) ⌝ }
-    ensures low { λ _. ⌜ now («low_arcs» .exit) ≡ over (byNode (lowArc (tableOf (now (file .entry)))) n) (now («low_arcs» .entry)) ⌝ }
+// The shares of the hi arcs and of the lo arcs, by position.
+pub struct Shares {
+    pub high: [u64; 64],
+    pub low: [u64; 64],
+}
+
+// The shares of the arcs at each position, read once for all records; 0 and 1 past the last variable.
+pub fn shares_by_position(file: &[u8]) -> Shares
+    ensures high { λ r. ⌜ r .high ≡ highShares (tableOf (now (file .entry))) ⌝ }
+    ensures low { λ r. ⌜ r .low ≡ lowShares (tableOf (now (file .entry))) ⌝ }
 {
-    high_arcs[0] = 0;
-    high_arcs[1] = 0;
-    low_arcs[0] = 0;
-    low_arcs[1] = 0;
-    let mut k = 0;
-    while k < n {
-        let node = Node::of_record(k);
-        let at = position_of(positions, node);
+    let mut high = [0u64; 64];
+    let mut low = [1u64; 64];
+    let mut p = variable_count(file);
+    while 0 < p {
+        p -= 1;
+        let at = Position::new(p);
         let w = word_at(file, at.word());
-        high_arcs[k + 2] = arc(
-            products,
-            high_share(w),
-            at,
-            position_of(positions, child_of(high, node)),
-        );
-        low_arcs[k + 2] = arc(
-            products,
-            low_share(w),
-            at,
-            position_of(positions, child_of(low, node)),
-        );
-        k += 1;
+        high[p as usize] = high_share(w);
+        low[p as usize] = low_share(w);
     }
+    Shares { high, low }
+}
+
+// The weight of a record's hi arc, or of its lo arc, from the products, the shares of these arcs, and the children that they
+// lead to.
+pub fn arc_weight(
+    products: &[u64; 64],
+    shares: &[u64; 64],
+    positions: &[u8; 256],
+    children: &[u8; 256],
+    node: Node,
+) -> u64
+    requires { ⌜ Weighable (now products) (now shares) (now positions) (now children) (node .0) ⌝ }
+    ensures { λ r. ⌜ r ≡ arcWeight (now (products .entry)) (now (shares .entry)) (now (positions .entry)) (now (children .entry)) (node .0) ⌝ }
+{
+    let at = position_of(positions, node);
+    let to = position_of(positions, child_of(children, node));
+    arc(products, share_at(shares, at), at, to)
+}
+
+// The share at a position.
+fn share_at(shares: &[u64; 64], at: Position) -> u64
+    requires { ⌜ at .0 < 64 ⌝ }
+    ensures { λ r. ⌜ r ≡ getD (now (shares .entry)) (at .0) 0 ⌝ }
+{
+    let p = at.number();
+    shares[p]
 }
 
 // A share, times b of each variable between two positions: the quotient is exact. Most arcs lead to the next position, and

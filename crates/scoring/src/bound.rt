@@ -76,7 +76,7 @@ pub fn bound_of(
 }
 
 // The values of all nodes under the marks in force, an open line counting as taken. The arrays hold a table and a plan, as
-// `read_records`, `arc_weights` and `marks_by_position` leave them.
+// `read_records`, `lay_out` and `marks_by_position` leave them.
 pub fn values_of(
     n: usize,
     positions: &[u8; 256],

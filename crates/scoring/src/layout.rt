@@ -1,6 +1,7 @@
 // A table in arrays, laid out once for all plans.
-use crate::arcs::arc_weights;
+use crate::arcs::arc_weight;
 use crate::arcs::products;
+use crate::arcs::shares_by_position;
 use diagram::Node;
 use diagram::Position;
 use reading::position_of;
@@ -31,16 +32,18 @@ pub fn lay_out(
     ensures weight { λ r. ⌜ r ≡ gap (tableOf (now (file .entry))) 0 (place (tableOf (now (file .entry))) (root (tableOf (now (file .entry))))) ⌝ }
 {
     let products = products(file);
-    arc_weights(
-        file,
-        n,
-        &products,
-        positions,
-        high,
-        low,
-        high_arcs,
-        low_arcs,
-    );
+    let shares = shares_by_position(file);
+    high_arcs[0] = 0;
+    high_arcs[1] = 0;
+    low_arcs[0] = 0;
+    low_arcs[1] = 0;
+    let mut k = 0;
+    while k < n {
+        let node = Node::of_record(k);
+        high_arcs[k + 2] = arc_weight(&products, &shares.high, positions, high, node);
+        low_arcs[k + 2] = arc_weight(&products, &shares.low, positions, low, node);
+        k += 1;
+    }
     root_weight(&products, position_of(positions, Node::of_record(n - 1)))
 }
 

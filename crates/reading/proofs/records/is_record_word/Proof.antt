@@ -1,83 +1,68 @@
 -- `is_record_word` meets its contract: its tests are the definition's, in that order. Assumes nothing.
-use Prim.Native.Nat.{ℕ, _+_}
+use Prim.Native.Nat.{ℕ}
 use native.Mathlib.Omega.{arith}
-use mathlib.Core.Path.{_≡_, ap, ap₂, sym, _∙_}
+use mathlib.Core.Path.{_≡_, ap₂, sym, _∙_}
 use mathlib.Core.Bool.{Bool, true}
+use mathlib.Core.List.{List}
 use lib.Dec.{eqb, ltb}
 use denote.Ref.{now}
 use borrow.Author.Needs.{needs}
 use borrow.Author.Tests.{lt-ltb, le-ltb, eq-eqb, ne-eqb, not-true, not-false}
-use Rattle.diagram.specs.Words.{wordAt, kind, fieldP, fieldQ, fieldR}
-use Rattle.diagram.specs.Table.{variableCount, tableOf}
+use Rattle.diagram.specs.Words.{kind, fieldP, fieldQ, fieldR}
+use Rattle.diagram.specs.Table.{Record}
 use Rattle.diagram.specs.Checks.{isRecordWord, isChild}
+use Rattle.reading.specs.Nodes.{Placed}
 use Rattle.reading.proofs.records.is_record_word.Statement.{statement}
 use Rattle.reading.proofs.records.is_record_word.Tie as tie
 
 -- ---------------------------------------------------------------------------
--- What the definition speaks of, at the function's entry
+-- What the contract speaks of, at the function's entry
 
-abbrev variables-of : tie.Start → ℕ
-variables-of a = variableCount (now (a .args .file))
+abbrev Holds : tie.Start → List Record → Type 0
+Holds a rs = Placed (a .args .end .0) rs (now (a .args .positions)) (a .args .k)
 
-abbrev word-of : tie.Start → ℕ
-word-of a = wordAt (now (a .args .file)) (1 + variables-of a + a .args .k)
-
-abbrev child-test : tie.Start → (p n : ℕ) → Bool
-child-test a = isChild (variables-of a) (tableOf (now (a .args .file)) .records) (a .args .k)
+abbrev child-test : tie.Start → List Record → (p n : ℕ) → Bool
+child-test a rs = isChild (a .args .end .0) rs (a .args .k)
 
 abbrev entry : tie.After-new → tie.Start
-entry c = c .before .before .before .before .before .before .before
+entry c = c .before .before .before .before
 
 -- ---------------------------------------------------------------------------
 -- What the code reads, and what its tests say
 
-word-read : (c : tie.After-word-at) → c .word-at .result ≡ word-of (c .before .before .before)
-word-read c = cc
+position-read : (c : tie.After-new) → c .new .result .0 ≡ fieldP (entry c .args .w)
+position-read c = c .new .ensures ∙ c .before .field-p .ensures
 
-position-read : (c : tie.After-new) → c .new .result .0 ≡ fieldP (word-of (entry c))
-position-read c = c .new .ensures ∙ c .before .field-p .ensures ∙ ap fieldP (word-read (c .before .before .before .before))
+numbers : (c : tie.After-number2) → let a = entry (c .before .before) in (c .before .number .result ≡ a .args .end .0) × (c .number2 .result ≡ fieldP (a .args .w))
+numbers c = (c .before .number .ensures, c .number2 .ensures ∙ position-read (c .before .before))
 
-numbers : (c : tie.After-number2) → let a = entry (c .before .before) in (c .before .number .result ≡ variables-of a) × (c .number2 .result ≡ fieldP (word-of a))
-numbers c = (c .before .number .ensures ∙ entry (c .before .before) .pre .0, c .number2 .ensures ∙ position-read (c .before .before))
+kind-right : (c : tie.Else1) → eqb (kind (c .before .before .args .w)) 4 ≡ true
+kind-right c = eq-eqb (kind (c .before .before .args .w)) 4 (cc)
 
-kind-right : (c : tie.Else1) → eqb (kind (word-of (c .before .before .before .before .before))) 4 ≡ true
-kind-right c = eq-eqb (kind (word-of (c .before .before .before .before .before))) 4 (cc (word-read (c .before .before)))
-
-position-right : (c : tie.Else2) → let a = entry (c .before .before .before) in ltb (fieldP (word-of a)) (variables-of a) ≡ true
+position-right : (c : tie.Else2) → let a = entry (c .before .before .before) in ltb (fieldP (a .args .w)) (a .args .end .0) ≡ true
 position-right c =
     let a = entry (c .before .before .before) in
-    lt-ltb (fieldP (word-of a)) (variables-of a) (omega (arith, numbers (c .before)))
+    lt-ltb (fieldP (a .args .w)) (a .args .end .0) (omega (arith, numbers (c .before)))
 
-hi-test : (c : tie.After-is-child) → let a = entry (c .before .before .before .before .before) in c .is-child .result ≡ child-test a (fieldP (word-of a)) (fieldQ (word-of a))
-hi-test c =
+hi-test : (c : tie.After-is-child) {rs : List Record} → let a = entry (c .before .before .before .before .before) in Holds a rs → c .is-child .result ≡ child-test a rs (fieldP (a .args .w)) (fieldQ (a .args .w))
+hi-test c {rs} placed =
     let new = c .before .before .before .before .before in
-    c .is-child .ensures ∙ ap₂ (child-test (entry new)) (position-read new) (c .before .field-q .ensures ∙ ap fieldQ (word-read (new .before .before .before .before)))
+    c .is-child .ensures _ rs placed ∙ ap₂ (child-test (entry new) rs) (position-read new) (c .before .field-q .ensures)
 
-lo-test : (c : tie.After-is-child2) → let a = entry (c .before .before .before .before .before .before .before .before) in c .is-child2 .result ≡ child-test a (fieldP (word-of a)) (fieldR (word-of a))
-lo-test c =
+lo-test : (c : tie.After-is-child2) {rs : List Record} → let a = entry (c .before .before .before .before .before .before .before .before) in Holds a rs → c .is-child2 .result ≡ child-test a rs (fieldP (a .args .w)) (fieldR (a .args .w))
+lo-test c {rs} placed =
     let new = c .before .before .before .before .before .before .before .before in
-    c .is-child2 .ensures ∙ ap₂ (child-test (entry new)) (position-read new) (c .before .field-r .ensures ∙ ap fieldR (word-read (new .before .before .before .before)))
+    c .is-child2 .ensures _ rs placed ∙ ap₂ (child-test (entry new) rs) (position-read new) (c .before .field-r .ensures)
 
 -- ---------------------------------------------------------------------------
 -- The needs
-
-word-requires : tie.Need-word-requires
-word-requires c κs = search needs
-
-add-word-at : tie.Need-add-word-at
-add-word-at c = search needs
-
-word-at-requires : tie.Need-word-at-requires
-word-at-requires c κs = search needs
 
 kind-requires : tie.Need-kind-requires
 kind-requires c κs = search needs
 
 returns : tie.Need-returns
 unfolding isRecordWord
-returns c =
-    let w = word-of (c .before .before .before .before .before) in
-    simp (ne-eqb (kind w) 4 (λ e. c .if1 .taken (cc (word-read (c .before .before)))))
+returns c = λ rs placed. simp (ne-eqb (kind (c .before .before .args .w)) 4 (λ e. c .if1 .taken (c .before .kind .ensures ∙ e)))
 
 field-p-requires : tie.Need-field-p-requires
 field-p-requires c κs = search needs
@@ -98,7 +83,7 @@ returns-2 : tie.Need-returns-2
 unfolding isRecordWord
 returns-2 c =
     let a = entry (c .before .before .before) in
-    simp (kind-right (c .before .before .before .before .before), le-ltb (fieldP (word-of a)) (variables-of a) (omega (arith, numbers (c .before))))
+    λ rs placed. simp (kind-right (c .before .before .before .before .before), le-ltb (fieldP (a .args .w)) (a .args .end .0) (omega (arith, numbers (c .before))))
 
 field-q-requires : tie.Need-field-q-requires
 field-q-requires c κs = search needs
@@ -108,7 +93,7 @@ is-child-requires c κs = search needs
 
 returns-3 : tie.Need-returns-3
 unfolding isRecordWord
-returns-3 c = simp (kind-right (c .before .before .before .before .before .before .before .before), position-right (c .before .before .before), sym (hi-test (c .before)) ∙ not-true _ (c .if3 .taken))
+returns-3 c = λ rs placed. simp (kind-right (c .before .before .before .before .before .before .before .before), position-right (c .before .before .before), sym (hi-test (c .before) placed) ∙ not-true _ (c .if3 .taken))
 
 field-r-requires : tie.Need-field-r-requires
 field-r-requires c κs = search needs
@@ -118,15 +103,12 @@ is-child-requires-2 c κs = search needs
 
 returns-4 : tie.Need-returns-4
 unfolding isRecordWord
-returns-4 c = simp (kind-right (c .before .before .before .before .before .before .before .before .before .before), position-right (c .before .before .before .before .before), sym (hi-test (c .before .before .before)) ∙ not-false _ (c .before .before .if3 .left)) (lo-test c)
+returns-4 c = λ rs placed. simp (kind-right (c .before .before .before .before .before .before .before .before .before .before), position-right (c .before .before .before .before .before), sym (hi-test (c .before .before .before) placed) ∙ not-false _ (c .before .before .if3 .left)) (lo-test c placed)
 
 pub is-record-word-spec : {M : Type 1} → statement M
 is-record-word-spec =
     tie.close
     (tie.spec
-    word-requires
-    add-word-at
-    word-at-requires
     kind-requires
     returns
     field-p-requires

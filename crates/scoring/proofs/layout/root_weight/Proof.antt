@@ -1,7 +1,15 @@
 -- `root_weight` meets its contract. Assumes nothing.
+use Prim.Native.Nat.{ℕ, _/_}
+use mathlib.Core.Path.{_≡_}
+use mathlib.Core.List.{List}
+use lib.ListN.{getD}
 use borrow.Author.Needs.{needs}
 use Rattle.scoring.proofs.layout.root_weight.Statement.{statement}
 use Rattle.scoring.proofs.layout.root_weight.Tie as tie
+
+-- the weight, at the number that the code has read
+weight-is : (qs : List ℕ) {i at : ℕ} → i ≡ at → getD qs 0 0 / getD qs i 0 ≡ getD qs 0 0 / getD qs at 0
+weight-is qs e = rw e
 
 number-requires : tie.Need-number-requires
 number-requires c κs = search needs
@@ -19,7 +27,7 @@ div-result : tie.Need-div-result
 div-result c = rw (c .before .before .number .ensures) (c .before .before .before .pre .1)
 
 returns : tie.Need-returns
-returns c = rw (c .before .before .number .ensures)
+returns c = weight-is (c .before .before .before .args .products .now) (c .before .before .number .ensures)
 
 pub root-weight-spec : {M : Type 1} → statement M
 root-weight-spec =

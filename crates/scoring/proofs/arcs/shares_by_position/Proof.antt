@@ -1,0 +1,129 @@
+-- `shares_by_position` meets its contract. The loop's invariant: the shares from position p on are there. The measure is p.
+-- Assumes nothing.
+use Prim.Native.Nat.{ℕ, _-_, _≤_, _<_}
+use native.Mathlib.Omega.{arith}
+use mathlib.Core.Path.{_≡_, ap, sym, _∙_}
+use mathlib.Core.List.{List}
+use lib.ListN.{length, getD, List·getD-eq-default}
+use borrow.Author.Needs.{needs}
+use Rattle.diagram.specs.Table.{Variable, chance, variableOf, tableOf}
+use Rattle.reading.proofs.Counting.{variables-length}
+use Rattle.reading.proofs.Pairing.{variable-at}
+use Rattle.scoring.specs.Value.{highShare, lowShare}
+use Rattle.scoring.specs.Passes.{sharesBy}
+use Rattle.scoring.proofs.Arcing.{From, from-start, from-next, from-all}
+use Rattle.scoring.proofs.arcs.shares_by_position.Statement.{statement}
+use Rattle.scoring.proofs.arcs.shares_by_position.Tie as tie
+
+-- the variable at a position of a file's table, and the default past the last
+abbrev variable : List ℕ → ℕ → Variable
+variable file x = getD (tableOf file .variables) x (chance 0 1)
+
+abbrev Inv-loop : tie.InvT-loop
+Inv-loop file high₀ low₀ p₀ high low p =
+    (p ≤ length (tableOf file .variables)) × (p < 64) × From (λ x. highShare (variable file x) 1) p high × From (λ x. lowShare (variable file x) 2) p low
+
+abbrev μ-loop : tie.MeasureT-loop
+μ-loop file high₀ low₀ p₀ high low p = p
+
+-- the variable that a turn reads
+variable-read : (c : tie.After-word-at Inv-loop μ-loop) → variableOf (c .word-at .result) ≡ variable (c .before .before .before .before .before .before .before .args .file .now) (c .before .before .before .before .loop .p - 1)
+variable-read c =
+    let file = c .before .before .before .before .before .before .before .args .file .now in
+    let v = variables-length file in
+    rw (c .word-at .ensures, c .before .word .ensures, c .before .before .new .ensures) (sym (variable-at file (c .before .before .before .before .loop .p - 1) (omega arith)))
+
+variable-count-requires : tie.Need-variable-count-requires Inv-loop μ-loop
+variable-count-requires c κs = search needs
+
+loop-holds : tie.Need-loop-holds Inv-loop μ-loop
+unfolding highShare lowShare
+loop-holds c =
+    let file = c .before .before .args .file .now in
+    let v = variables-length file in
+    let past : (x : ℕ) → length (tableOf file .variables) ≤ x → variable file x ≡ chance 0 1 = λ x l. List·getD-eq-default (tableOf file .variables) (chance 0 1) {n = x} l in (
+      omega arith,
+      omega arith,
+      from-start _ 0 (λ x l. ap (λ (v : Variable). highShare v 1) (past x (omega arith))),
+      from-start _ 1 (λ x l. ap (λ (v : Variable). lowShare v 2) (past x (omega arith))),
+    )
+
+sub-p : tie.Need-sub-p Inv-loop μ-loop
+sub-p c = search needs
+
+new-requires : tie.Need-new-requires Inv-loop μ-loop
+new-requires c κs = search needs
+
+word-requires : tie.Need-word-requires Inv-loop μ-loop
+word-requires c κs = search needs
+
+word-at-requires : tie.Need-word-at-requires Inv-loop μ-loop
+word-at-requires c κs = search needs
+
+high-share-requires : tie.Need-high-share-requires Inv-loop μ-loop
+high-share-requires c κs = search needs
+
+cast-high : tie.Need-cast-high Inv-loop μ-loop
+cast-high c = search needs
+
+mul-high : tie.Need-mul-high Inv-loop μ-loop
+mul-high c = search needs
+
+array-write-high : tie.Need-array-write-high Inv-loop μ-loop
+array-write-high c = search needs
+
+low-share-requires : tie.Need-low-share-requires Inv-loop μ-loop
+low-share-requires c κs = search needs
+
+cast-low : tie.Need-cast-low Inv-loop μ-loop
+cast-low c = search needs
+
+mul-low : tie.Need-mul-low Inv-loop μ-loop
+mul-low c = search needs
+
+array-write-low : tie.Need-array-write-low Inv-loop μ-loop
+array-write-low c = search needs
+
+loop-less : tie.Need-loop-less Inv-loop μ-loop
+loop-less c = search needs
+
+loop-again : tie.Need-loop-again Inv-loop μ-loop
+loop-again c =
+    let inv = c .before .before .before .before .before .before .loop .inv in
+    let read = variable-read (c .before .before) in (
+      omega arith,
+      omega arith,
+      from-next _ (inv .2) (omega arith) (omega arith) (c .before .high-share .ensures ∙ ap (λ (v : Variable). highShare v 1) read),
+      from-next _ (inv .3) (omega arith) (omega arith) (c .low-share .ensures ∙ ap (λ (v : Variable). lowShare v 2) read),
+    )
+
+returns : tie.Need-returns Inv-loop μ-loop
+unfolding sharesBy
+returns c =
+    let inv = c .before .loop .inv in
+    let e : c .before .loop .p ≡ 0 = omega arith in
+    (from-all (rw e at (inv .2)), from-all (rw e at (inv .3)))
+
+pub shares-by-position-spec : {M : Type 1} → statement M
+shares-by-position-spec =
+    tie.close
+    (tie.spec
+    Inv-loop
+    μ-loop
+    variable-count-requires
+    loop-holds
+    sub-p
+    new-requires
+    word-requires
+    word-at-requires
+    high-share-requires
+    cast-high
+    mul-high
+    array-write-high
+    low-share-requires
+    cast-low
+    mul-low
+    array-write-low
+    loop-less
+    loop-again
+    returns)
