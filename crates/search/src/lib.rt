@@ -14,7 +14,7 @@ use sweep::accept;
 use sweep::largest_failing;
 ghost use mathlib.Core.Path.{_≡_};
 ghost use Prim.Native.Nat.{suc, _+_, _≤_, _^_};
-ghost use lib.ListN.{length, take, getD};
+ghost use lib.ListN.{length, take};
 ghost use Rattle.diagram.specs.Plans.{openCount};
 ghost use Rattle.diagram.specs.Services.{searchOutcome, searchBuffer};
 ghost use Rattle.search.specs.Answer.{searchOf, visitsOf};
@@ -62,18 +62,10 @@ pub fn search(file: &[u8], plan: &[u8], budget: u32, percent: u32, out: &mut [u8
         });
     }
     write(&best, out);
-    SearchAnswer::Found(tallied(&tally))
-}
-
-// The score of the plan held and the visits, as they are tallied.
-fn tallied(tally: &[u64; 3]) -> Finding
-    ensures score { λ r. ⌜ r .score ≡ getD (now (tally .entry)) 0 0 ⌝ }
-    ensures visits { λ r. ⌜ r .visits ≡ getD (now (tally .entry)) 2 0 ⌝ }
-{
-    Finding {
+    SearchAnswer::Found(Finding {
         score: tally[0],
         visits: tally[2],
-    }
+    })
 }
 
 // Writes the first marks of a plan to a buffer of at most 20 bytes.

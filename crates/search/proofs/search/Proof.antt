@@ -78,22 +78,27 @@ array-read-if1 c = search needs
 
 returns-2 : tie.Need-returns-2
 returns-2 c =
-    search-32 _ _ _ _ _ _ (request-answered (c .before .before .before .before .before .before .before .before)) (explored (c .before)) (c .if1 .taken) refl refl
+    let a = c .before .before .before .before .before .before .before .before .before .before .before .before .before .before .before .before .before .before .args in
+    search-32 (a .file .now) (a .plan .now) (a .out .now) (a .budget) (a .percent) (numbers (c .before .before .before .before .before .before .before .before .before .t .given .0 .0)) (request-answered (c .before .before .before .before .before .before .before .before)) (explored (c .before)) (c .if1 .taken) refl refl
 
 write-requires : tie.Need-write-requires
 write-requires c κs =
     let ok = request-proper (c .before .before .before .before .before .before .before .before .before .before) in
     (held-long _ _ (c .before .before .before .before .before .before .before .before .before .before .before .before .before .before .before .before .before .before .before .before .args .out .now) _ _ _ (request-answered (c .before .before .before .before .before .before .before .before .before .before)) (explored (c .before .before .before)) (c .before .before .if1 .left), omega (arith, ok .sized, passed-choices (ok .passed)))
 
-tallied-requires : tie.Need-tallied-requires
-tallied-requires c κs = search needs
+array-read-t21 : tie.Need-array-read-t21
+array-read-t21 c = search needs
+
+array-read-t38 : tie.Need-array-read-t38
+array-read-t38 c = search needs
 
 same-length : tie.Need-same-length
 same-length c = search needs
 
 returns-3 : tie.Need-returns-3
 returns-3 c =
-    search-found _ _ _ _ _ _ (request-answered (c .before .before .before .before .before .before .before .before .before .before .before .before .before .before .before)) (explored (c .before .before .before .before .before .before .before .before)) (c .before .before .before .before .before .before .before .if1 .left) (c .before .before .before .before .write .ensures) (c .tallied .ensures .0) (c .tallied .ensures .1)
+    let a = c .before .before .before .before .before .before .before .before .before .before .before .before .before .before .before .before .before .before .before .before .before .before .before .args in
+    search-found (a .file .now) (a .plan .now) (a .out .now) (a .budget) (a .percent) (numbers (c .before .before .before .before .before .before .before .before .before .before .before .before .before .before .t .given .0 .0)) (request-answered (c .before .before .before .before .before .before .before .before .before .before .before .before .before)) (explored (c .before .before .before .before .before .before)) (c .before .before .before .before .before .if1 .left) (c .before .before .write .ensures) refl refl
 
 pub search-spec : {M : Type 1} → statement M
 search-spec =
@@ -108,6 +113,7 @@ search-spec =
     array-read-if1
     returns-2
     write-requires
-    tallied-requires
+    array-read-t21
+    array-read-t38
     same-length
     returns-3)
