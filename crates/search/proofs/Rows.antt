@@ -1,12 +1,12 @@
--- A loop's step over the lines of a plan, from line i to the next: the open lines, what the taken ones cost, and the marks written to a buffer. Of the
--- marks, the first n are in use. Assumes that there are so many.
+-- A loop's step over the lines of a plan, from line i to the next: the open lines, and what the taken ones cost. Of the marks, the first n
+-- are in use. Assumes that there are so many.
 use Prim.Native.Nat.{ℕ, zero, suc, _+_, _≤_, _<_}
 use native.Mathlib.Numerals.{add-one}
 use native.Mathlib.Omega.{arith}
-use mathlib.Core.Path.{_≡_, refl, sym, _∙_}
+use mathlib.Core.Path.{_≡_, refl}
 use mathlib.Core.List.{List, [], _∷_, _++_, append-nil}
 use lib.ListN.{length, getD, set, take, drop, drop-of-length-le}
-use lib.Seq.{length-take-le, getD-take, drop-cons, append-snoc, take-suc, take-suc-set, take-all}
+use lib.Seq.{length-take-le, getD-take, drop-cons, append-snoc, take-suc-set}
 use Rattle.diagram.specs.Plans.{takenCount, cost}
 use Rattle.search.specs.State.{openFrom, openLines}
 
@@ -86,17 +86,3 @@ module _ (marks : List ℕ) (n i : ℕ) (long : n ≤ length marks) where
     pub counted-all : n ≤ i → t ≡ cost (take n marks)
     unfolding cost takenCount
     counted-all l = omega (arith, rw (row-end l) at counted)
-
--- ---------------------------------------------------------------------------
--- The marks written to a buffer, as far as place i
-
-module _ (marks out : List ℕ) (i : ℕ) (written : take i out ≡ take i marks) where
-  -- one mark more, where the mark written is the one at the same place
-  pub written-more : {x : ℕ} → x ≡ getD marks i 0 → i < length marks → i < length out → take (i + 1) (set out i x) ≡ take (i + 1) marks
-  written-more e h l = rw (add-one, take-suc-set out i _ l, take-suc marks i 0 h, written, e) refl
-
-  -- all marks, at the end
-  pub written-all : (n : ℕ) → length out ≡ n → n ≤ i → i ≤ n → out ≡ take n marks
-  written-all n e l h =
-      let same : i ≡ n = omega arith in
-      sym (take-all i out (omega arith)) ∙ written ∙ rw same refl

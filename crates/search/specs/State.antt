@@ -1,15 +1,12 @@
 -- What a search holds: the plan visited, what is known of it, and the best plan so far with the visits.
 use Prim.Native.Nat.{ℕ, zero, suc, _+_, _-_, _≤_, _<_}
 use mathlib.Core.Path.{_≡_}
-use mathlib.Core.Bool.{Bool, _&&_, _||_}
 use mathlib.Core.List.{List, [], _∷_, _++_}
 use mathlib.Core.Option.{Option, none, some}
 use lib.ListN.{length, getD, take, replicate}
-use lib.Dec.{eqb, ltb}
 use Rattle.diagram.specs.Table.{Table, Variable, choice, chance, sequence, tableOf, root, choiceCount}
 use Rattle.diagram.specs.Score as scores
 use Rattle.diagram.specs.Plans.{openTaken, openCount, cost, upperBound}
-use Rattle.diagram.specs.Ranking.{takesFirst}
 use Rattle.diagram.specs.Visits as visits
 use Rattle.diagram.specs.declared.plan.Plan.{Plan}
 use Rattle.scoring.specs.Value.{place, gap, highArc, lowArc}
@@ -80,10 +77,6 @@ pub record Holding (t : Table) (budget failing : ℕ) (q best tally : List ℕ) 
 pub record Holds (t : Table) (budget failing : ℕ) (held : Option (List ℕ)) (best tally : List ℕ) : Type 0 where
   pub nothing : held ≡ none → (getD tally 0 0 ≡ failing + 1) × (getD tally 1 0 ≡ 0)
   pub something : (q : List ℕ) → held ≡ some q → Holding t budget failing q best tally
-
--- A plan's score, room and marks rank before another's
-unfoldable pub ranksOver : (score room : ℕ) → List ℕ → (score room : ℕ) → List ℕ → Bool
-ranksOver x c p y d q = ltb y x || eqb x y && (ltb d c || eqb c d && takesFirst p q)
 
 -- ---------------------------------------------------------------------------
 -- A visit

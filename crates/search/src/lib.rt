@@ -2,7 +2,6 @@
 mod answer;
 mod explore;
 mod lines;
-mod tally;
 mod visit;
 
 pub use answer::Finding;

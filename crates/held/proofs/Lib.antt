@@ -1,0 +1,3 @@
+-- Laws of what a search holds.
+pub mod Written
+pub mod Keeping

@@ -1,0 +1,2 @@
+-- The ranking of two plans by what a search holds of each.
+pub mod Ranks
