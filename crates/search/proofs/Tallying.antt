@@ -20,8 +20,8 @@ use Rattle.diagram.proofs.Every.{neither, both-ways}
 use Rattle.sweep.specs.Drops.{LargestFailing}
 use Rattle.rule.specs.Rule.{terms, beaten, goesBack, worthwhile}
 use Rattle.rule.proofs.Instance.{full-taken}
-use Rattle.held.specs.Ranks.{ranksOver}
-use Rattle.held.proofs.Keeping.{ranks-room}
+use Rattle.incumbent.specs.Ranks.{ranksOver}
+use Rattle.incumbent.proofs.Keeping.{ranks-room}
 use Rattle.search.specs.State.{padded, Holding, Holds}
 
 -- ---------------------------------------------------------------------------

@@ -20,7 +20,7 @@ use Rattle.rule.specs.Rule.{Terms, terms, goesBack, worthwhile, rule}
 use Rattle.rule.proofs.Ruling.{rule-back, rule-full, rule-taken, rule-both, rule-visits}
 use Rattle.layers.specs.Layers.{Layers, passNodes, ownNodes, dropSum, leaveNodes, Enterable}
 use Rattle.layers.specs.Flows.{Same}
-use Rattle.held.specs.Ranks.{ranksOver}
+use Rattle.incumbent.specs.Ranks.{ranksOver}
 use Rattle.search.specs.State.{Holds, Scene, Visitable, ruled, Visited}
 use Rattle.search.proofs.Tallying.{back-is, worth-is, counted-holds, kept-holds, kept-visits}
 use Rattle.search.proofs.Branching as branching

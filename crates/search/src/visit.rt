@@ -1,10 +1,10 @@
 // The visits of document 01's rule, by recursion over the open lines.
 use crate::lines::mark_line;
 use diagram::Plan;
-use held::count;
-use held::goes_back;
-use held::is_beaten;
-use held::keep;
+use incumbent::count;
+use incumbent::goes_back;
+use incumbent::is_beaten;
+use incumbent::keep;
 use layers::enter_layer;
 use layers::leave_layer;
 ghost use mathlib.Core.Path.{_≡_};

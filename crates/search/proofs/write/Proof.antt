@@ -4,7 +4,7 @@ use Prim.Native.Nat.{_-_, _≤_}
 use native.Mathlib.Omega.{arith}
 use mathlib.Core.Path.{_≡_, refl}
 use lib.ListN.{length, take, length-set}
-use Rattle.held.proofs.Written.{written-more, written-all}
+use Rattle.incumbent.proofs.Written.{written-more, written-all}
 use Rattle.search.proofs.write.Statement.{statement}
 use Rattle.search.proofs.write.Tie as tie
 

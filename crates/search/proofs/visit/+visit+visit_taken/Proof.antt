@@ -16,10 +16,10 @@ use Rattle.search.proofs.visit.visit_taken.Reads as taken
 use Rattle.search.proofs.visit.visit_taken.Kinds as taken-kinds
 use Rattle.search.proofs.visit.+visit+visit_taken.Lts-visit_taken as taken-lts
 use Rattle.search.proofs.lines.mark_line.Reads as mark-line-reads
-use Rattle.held.proofs.count.Reads as count-reads
-use Rattle.held.proofs.goes_back.Reads as goes-back-reads
-use Rattle.held.proofs.is_beaten.Reads as is-beaten-reads
-use Rattle.held.proofs.keep.Reads as keep-reads
+use Rattle.incumbent.proofs.count.Reads as count-reads
+use Rattle.incumbent.proofs.goes_back.Reads as goes-back-reads
+use Rattle.incumbent.proofs.is_beaten.Reads as is-beaten-reads
+use Rattle.incumbent.proofs.keep.Reads as keep-reads
 use Rattle.layers.proofs.enter_layer.Reads as enter-layer-reads
 use Rattle.layers.proofs.leave_layer.Reads as leave-layer-reads
 use Rattle.search.proofs.visit.+visit+visit_taken.{statement}

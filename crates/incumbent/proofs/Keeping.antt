@@ -10,7 +10,7 @@ use lib.Dec.{eqb, ltb}
 use lib.Seq.{drop-cons}
 use borrow.Author.Tests.{le-ltb, eq-eqb, ne-eqb, not-true, not-false}
 use Rattle.diagram.specs.Ranking.{takesFirst}
-use Rattle.held.specs.Ranks.{ranksOver}
+use Rattle.incumbent.specs.Ranks.{ranksOver}
 
 -- ---------------------------------------------------------------------------
 -- A visit's tests

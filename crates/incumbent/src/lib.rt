@@ -8,7 +8,7 @@ ghost use Prim.Native.Nat.{_+_, _<_, _^_};
 ghost use lib.ListN.{length, getD, set};
 ghost use lib.Dec.{eqb, ltb};
 ghost use Rattle.diagram.specs.Ranking.{takesFirst};
-ghost use Rattle.held.specs.Ranks.{ranksOver};
+ghost use Rattle.incumbent.specs.Ranks.{ranksOver};
 
 // One visit more. There is room: `visit` shows that a search makes at most 2^21 visits.
 pub fn count(tally: &mut [u64; 3])

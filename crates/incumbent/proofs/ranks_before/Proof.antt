@@ -2,9 +2,9 @@
 use mathlib.Core.Path.{refl}
 use borrow.Author.Needs.{needs}
 use lib.ListN.{getD}
-use Rattle.held.proofs.Keeping.{ranks-score, ranks-room, ranks-lines}
-use Rattle.held.proofs.ranks_before.Statement.{statement}
-use Rattle.held.proofs.ranks_before.Tie as tie
+use Rattle.incumbent.proofs.Keeping.{ranks-score, ranks-room, ranks-lines}
+use Rattle.incumbent.proofs.ranks_before.Statement.{statement}
+use Rattle.incumbent.proofs.ranks_before.Tie as tie
 
 element-copy-out-if1 : tie.Need-element-copy-out-if1
 element-copy-out-if1 c = search needs

@@ -5,9 +5,9 @@ use native.Mathlib.Omega.{arith}
 use mathlib.Core.Path.{_≡_, refl, _∙_}
 use lib.ListN.{length, take, length-set}
 use lib.Seq.{take-all}
-use Rattle.held.proofs.Written.{written-more, written-all}
-use Rattle.held.proofs.copy.Statement.{statement}
-use Rattle.held.proofs.copy.Tie as tie
+use Rattle.incumbent.proofs.Written.{written-more, written-all}
+use Rattle.incumbent.proofs.copy.Statement.{statement}
+use Rattle.incumbent.proofs.copy.Tie as tie
 
 abbrev Inv-loop : tie.InvT-loop
 Inv-loop marks best₀ i₀ best i = (length best ≡ 20) × (i ≤ 20) × (take i best ≡ take i marks)

@@ -1,8 +1,8 @@
 -- `goes_back` meets its contract: no room decides, and otherwise the bound does. Assumes nothing.
 use borrow.Author.Needs.{needs}
-use Rattle.held.proofs.Keeping.{back-dear, back-other}
-use Rattle.held.proofs.goes_back.Statement.{statement}
-use Rattle.held.proofs.goes_back.Tie as tie
+use Rattle.incumbent.proofs.Keeping.{back-dear, back-other}
+use Rattle.incumbent.proofs.goes_back.Statement.{statement}
+use Rattle.incumbent.proofs.goes_back.Tie as tie
 
 returns : tie.Need-returns
 returns c = back-dear (c .before .args .room) _ (c .if1 .taken)

@@ -1,9 +1,9 @@
 -- `keep` meets its contract: a plan held that the finished one does not rank before stays, and otherwise the finished one is held. Assumes nothing.
 use mathlib.Core.Path.{refl}
 use borrow.Author.Needs.{needs}
-use Rattle.held.proofs.Keeping.{kept-old, kept-new, kept-numbers}
-use Rattle.held.proofs.keep.Statement.{statement}
-use Rattle.held.proofs.keep.Tie as tie
+use Rattle.incumbent.proofs.Keeping.{kept-old, kept-new, kept-numbers}
+use Rattle.incumbent.proofs.keep.Statement.{statement}
+use Rattle.incumbent.proofs.keep.Tie as tie
 
 ranks-before-requires : tie.Need-ranks-before-requires
 ranks-before-requires c κs = search needs

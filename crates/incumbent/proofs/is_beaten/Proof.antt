@@ -1,8 +1,8 @@
 -- `is_beaten` meets its contract. Assumes nothing.
 use mathlib.Core.Path.{refl}
 use borrow.Author.Needs.{needs}
-use Rattle.held.proofs.is_beaten.Statement.{statement}
-use Rattle.held.proofs.is_beaten.Tie as tie
+use Rattle.incumbent.proofs.is_beaten.Statement.{statement}
+use Rattle.incumbent.proofs.is_beaten.Tie as tie
 
 element-copy-out-result : tie.Need-element-copy-out-result
 element-copy-out-result c = search needs

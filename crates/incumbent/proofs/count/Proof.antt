@@ -1,8 +1,8 @@
 -- `count` meets its contract. Assumes nothing.
 use mathlib.Core.Path.{refl}
 use borrow.Author.Needs.{needs}
-use Rattle.held.proofs.count.Statement.{statement}
-use Rattle.held.proofs.count.Tie as tie
+use Rattle.incumbent.proofs.count.Statement.{statement}
+use Rattle.incumbent.proofs.count.Tie as tie
 
 element-copy-out-visits : tie.Need-element-copy-out-visits
 element-copy-out-visits c = search needs

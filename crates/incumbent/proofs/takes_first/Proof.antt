@@ -5,9 +5,9 @@ use native.Mathlib.Omega.{arith}
 use mathlib.Core.Path.{_≡_, refl, sym, _∙_}
 use lib.ListN.{drop}
 use Rattle.diagram.specs.Ranking.{takesFirst}
-use Rattle.held.proofs.Keeping.{first-here, first-next, first-end}
-use Rattle.held.proofs.takes_first.Statement.{statement}
-use Rattle.held.proofs.takes_first.Tie as tie
+use Rattle.incumbent.proofs.Keeping.{first-here, first-next, first-end}
+use Rattle.incumbent.proofs.takes_first.Statement.{statement}
+use Rattle.incumbent.proofs.takes_first.Tie as tie
 
 abbrev Inv-loop : tie.InvT-loop
 Inv-loop marks best i₀ i = (i ≤ 20) × (takesFirst marks best ≡ takesFirst (drop i marks) (drop i best))
