@@ -3,18 +3,18 @@
 use Prim.Native.Nat.{ℕ, suc, _+_, _-_, _*_, _≤_, _<_}
 use native.Mathlib.Omega.{arith}
 use mathlib.Core.Path.{_≡_, refl, ap, sym, _∙_}
-use mathlib.Core.Bool.{Bool, true, false, cond}
+use mathlib.Core.Bool.{Bool, true, false}
 use mathlib.Core.Option.{some}
 use mathlib.Core.List.{List, [], _∷_, _++_}
 use lib.ListN.{length, take}
 use lib.Seq.{take-suc, take-all}
-use lib.Dec.{eqb, ltb}
+use lib.Dec.{ltb}
 use borrow.Author.Tests.{lt-ltb, le-ltb}
-use Rattle.diagram.specs.Words.{wordAt, kind, fieldQ, fieldR}
+use Rattle.diagram.specs.Words.{wordAt, fieldQ, fieldR}
 use Rattle.diagram.specs.Table.{Variable, choice, chance, variableOf, isChoice, choiceCount, scaleOf, variableCount, tableOf}
 use Rattle.diagram.specs.Checks.{firstPlace}
+use Rattle.diagram.proofs.Places.{sequence-at, place-start, place-here, place-next, place-end}
 use Rattle.implication.proofs.Choosing.{is-choice-kind, variables-length}
-use Rattle.diagram.proofs.Places.{sequence-length, sequence-at, place-start, place-here, place-next, place-end}
 use Rattle.reading.specs.Answer.{boundedBy}
 use Rattle.reading.specs.declared.answer.Bounded.the-variants.{Within}
 
