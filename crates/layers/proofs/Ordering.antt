@@ -15,8 +15,8 @@ use Rattle.diagram.specs.Table.{Table, Record, sequence, recordAt}
 use Rattle.diagram.specs.Checks.{positionOf}
 use Rattle.diagram.proofs.Truth.{Formed}
 use Rattle.diagram.proofs.Locality.{position-less}
-use Rattle.reading.specs.Nodes.{column}
-use Rattle.reading.proofs.Pairing.{column-at}
+use Rattle.implication.specs.Nodes.{column}
+use Rattle.implication.proofs.Pairing.{column-at}
 use Rattle.scoring.specs.Value.{place}
 use Rattle.scoring.specs.Passes.{over}
 use Rattle.scoring.proofs.Over.{over-sequence-at}

@@ -23,10 +23,11 @@ use Rattle.diagram.proofs.Truth.{Formed}
 use Rattle.diagram.proofs.Implication.{implies-same}
 use Rattle.diagram.proofs.FirstVariable.{Shares, no-shares, choice-shares, chance-shares}
 use Rattle.diagram.proofs.Rising.{Monotone}
-use Rattle.reading.specs.Nodes.{Shaped}
-use Rattle.reading.proofs.Counting.{variables-length, above}
-use Rattle.reading.proofs.Shape.{heading-variables, heading-records, record-past, shaped-formed}
-use Rattle.reading.proofs.Pairing.{unmonotone-at, unmonotone-test}
+use Rattle.implication.specs.Nodes.{Shaped}
+use Rattle.implication.proofs.Choosing.{variables-length}
+use Rattle.implication.proofs.Shape.{heading-variables, heading-records, record-past, shaped-formed}
+use Rattle.implication.proofs.Pairing.{unmonotone-at, unmonotone-test}
+use Rattle.reading.proofs.Counting.{above}
 
 -- ---------------------------------------------------------------------------
 -- The heading and the records

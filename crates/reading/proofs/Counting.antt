@@ -3,30 +3,23 @@
 use Prim.Native.Nat.{ℕ, suc, _+_, _-_, _*_, _≤_, _<_}
 use native.Mathlib.Omega.{arith}
 use mathlib.Core.Path.{_≡_, refl, ap, sym, _∙_}
-use mathlib.Core.Bool.{Bool, true, false, cond}
+use mathlib.Core.Bool.{Bool, true, false}
 use mathlib.Core.Option.{some}
 use mathlib.Core.List.{List, [], _∷_, _++_}
 use lib.ListN.{length, take}
 use lib.Seq.{take-suc, take-all}
-use lib.Dec.{eqb, ltb}
+use lib.Dec.{ltb}
 use borrow.Author.Tests.{lt-ltb, le-ltb}
-use Rattle.diagram.specs.Words.{wordAt, kind, fieldQ, fieldR}
+use Rattle.diagram.specs.Words.{wordAt, fieldQ, fieldR}
 use Rattle.diagram.specs.Table.{Variable, choice, chance, variableOf, isChoice, choiceCount, scaleOf, variableCount, tableOf}
 use Rattle.diagram.specs.Checks.{firstPlace}
-use Rattle.diagram.proofs.Places.{sequence-length, sequence-at, place-start, place-here, place-next, place-end}
+use Rattle.diagram.proofs.Places.{sequence-at, place-start, place-here, place-next, place-end}
+use Rattle.implication.proofs.Choosing.{is-choice-kind, variables-length}
 use Rattle.reading.specs.Answer.{boundedBy}
 use Rattle.reading.specs.declared.answer.Bounded.the-variants.{Within}
 
 -- ---------------------------------------------------------------------------
 -- A word's variable
-
-pub is-choice-kind : (w : ℕ) → isChoice (variableOf w) ≡ eqb (kind w) 2
-unfolding isChoice variableOf
-is-choice-kind w = go (eqb (kind w) 2) (fieldQ w) (fieldR w)
-  where
-    go : (b : Bool) (x y : ℕ) → isChoice (cond b choice (chance x y)) ≡ b
-    go true x y = refl
-    go false x y = refl
 
 variable-choice : (w : ℕ) → isChoice (variableOf w) ≡ true → variableOf w ≡ choice
 unfolding variableOf
@@ -59,10 +52,6 @@ abbrev pub next : (file : List ℕ) → (p : ℕ) → Variable
 next s p = variableOf (wordAt s (1 + p))
 
 module _ (s : List ℕ) where
-  pub variables-length : length (tableOf s .variables) ≡ variableCount s
-  unfolding tableOf
-  variables-length = sequence-length (λ i. variableOf (wordAt s i)) 1 (variableCount s)
-
   module _ (p : ℕ) (h : p < variableCount s) where
     variables-last : first s (1 + p) ≡ first s p ++ (next s p ∷ [])
     unfolding tableOf
@@ -70,7 +59,7 @@ module _ (s : List ℕ) where
         let on : 1 + p ≡ suc p = omega arith in
         rw (
           on,
-          take-suc (tableOf s .variables) p choice (omega (arith, variables-length)),
+          take-suc (tableOf s .variables) p choice (omega (arith, variables-length s)),
           sequence-at (λ i. variableOf (wordAt s i)) 1 (variableCount s) p choice h,
           on,
         )

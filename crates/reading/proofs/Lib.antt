@@ -1,10 +1,4 @@
 -- Laws for the proofs of this crate's functions.
 pub mod Counting
-pub mod Shape
-pub mod Columns
-pub mod Pairing
-pub mod Digits
-pub mod Cells
-pub mod Stacking
 pub mod Outcomes
 pub mod Accepted

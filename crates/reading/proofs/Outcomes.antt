@@ -12,15 +12,17 @@ use Rattle.diagram.specs.Table.{Record, tableOf, variableCount, recordCount, ch
 use Rattle.diagram.specs.Services.{Outcome, refused, answered, checked, written, reading, readOutcome, Reading}
 use Rattle.diagram.proofs.Checked.{checked-passes, checked-stops, checked-end, checked-append, checked-answered, checked-refused, answered-not-refused, first-passed, Passed, read-passed, read-reading}
 use Rattle.diagram.specs.declared.refusal.Refusal.{Refusal}
+use Rattle.implication.specs.declared.answer.Fault.{Fault}
+use Rattle.implication.specs.declared.answer.Fault.the-variants.{At, Nowhere}
+use Rattle.implication.specs.Answer.{faultOf}
+use Rattle.implication.specs.Nodes.{column, Shaped}
 use Rattle.reading.specs.declared.answer.Summary.{Summary}
 use Rattle.reading.specs.declared.answer.ReadAnswer.{ReadAnswer}
 use Rattle.reading.specs.declared.answer.ReadAnswer.the-variants.{Refused}
-use Rattle.reading.specs.declared.answer.Fault.{Fault}
-use Rattle.reading.specs.declared.answer.Fault.the-variants.{At, Nowhere}
 use Rattle.reading.specs.declared.answer.Bounded.{Bounded}
 use Rattle.reading.specs.declared.answer.Bounded.the-variants.{Within, Above}
-use Rattle.reading.specs.Answer.{outcomeOf, shapeOutcome, faultOf, boundedBy}
-use Rattle.reading.specs.Nodes.{column, columnOr, Shaped}
+use Rattle.reading.specs.Answer.{outcomeOf, shapeOutcome, boundedBy}
+use Rattle.reading.specs.Nodes.{columnOr}
 
 -- ---------------------------------------------------------------------------
 -- The enums

@@ -7,8 +7,6 @@ use Rattle.diagram.specs.Checks.{tableChecks}
 use Rattle.diagram.specs.Services.{Outcome, refused, answered, checked, Reading, reading}
 use Rattle.reading.specs.declared.answer.ReadAnswer.{ReadAnswer}
 use Rattle.reading.specs.declared.answer.ReadAnswer.the-variants.{Table, Refused}
-use Rattle.reading.specs.declared.answer.Fault.{Fault}
-use Rattle.reading.specs.declared.answer.Fault.the-variants.{At, Nowhere}
 use Rattle.reading.specs.declared.answer.Bounded.{Bounded}
 use Rattle.reading.specs.declared.answer.Bounded.the-variants.{Within, Above}
 
@@ -21,11 +19,6 @@ outcomeOf (Refused r) = refused (r .number) (r .place)
 -- What comes of the checks 11 to 17, the checks of a table but for the last: a refusal, or what reading answers
 unfoldable pub shapeOutcome : List ℕ → Outcome Reading
 shapeOutcome s = checked (take 7 tableChecks) (λ file. answered (reading file)) s
-
--- The place that a check finds, if any
-unfoldable pub faultOf : Option ℕ → Fault
-faultOf none = Nowhere
-faultOf (some i) = At i
 
 -- A number where a check finds no fault, and else the place of the fault
 unfoldable pub boundedBy : Option ℕ → ℕ → Bounded

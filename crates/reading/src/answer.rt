@@ -15,12 +15,6 @@ pub enum ReadAnswer {
     Refused(Refusal),
 }
 
-// The place that a check finds at fault, as a word of the file.
-pub enum Fault {
-    At(usize),
-    Nowhere,
-}
-
 // A number within its limit, or the word where it first is above.
 pub enum Bounded {
     Within(u64),

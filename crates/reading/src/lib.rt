@@ -1,22 +1,21 @@
 // Reading a table file: the checks 11 to 18 of document 01, in its order, each over the whole file before the next.
 mod answer;
-mod monotone;
-mod nodes;
 mod records;
 mod variables;
 mod words;
 
 use answer::Bounded;
-pub use answer::Fault;
 pub use answer::ReadAnswer;
 pub use answer::Summary;
 use diagram::Refusal;
-pub use nodes::child_of;
-use nodes::decode;
-pub use nodes::position_of;
-pub use variables::is_choice;
-pub use words::record_count;
-pub use words::variable_count;
+pub use implication::Fault;
+pub use implication::child_of;
+use implication::decode;
+pub use implication::is_choice;
+use implication::monotone_fault;
+pub use implication::position_of;
+pub use implication::record_count;
+pub use implication::variable_count;
 ghost use mathlib.Core.Path.{_≡_};
 ghost use lib.ListN.{length};
 ghost use Rattle.diagram.specs.Table.{Record, variableCount};
@@ -53,7 +52,7 @@ pub fn read_records(
         ReadAnswer::Refused(r) => return ReadAnswer::Refused(r),
     };
     decode(file, positions, high, low);
-    if let Fault::At(place) = monotone::monotone_fault(file, positions, high, low) {
+    if let Fault::At(place) = monotone_fault(file, positions, high, low) {
         return refuse(18, place);
     }
     ReadAnswer::Table(t)
@@ -87,8 +86,8 @@ fn read_shape(file: &[u8]) -> ReadAnswer
         return refuse(17, place);
     }
     ReadAnswer::Table(Summary {
-        variables: words::variable_count(file) as usize,
-        records: words::record_count(file),
+        variables: variable_count(file) as usize,
+        records: record_count(file),
         choices: choices as usize,
         scale,
     })

@@ -1,9 +1,4 @@
 // Check 17: the record words. The positions of the records passed are kept, since a record's children come before it.
-use crate::answer::Fault;
-use crate::nodes::position_of;
-use crate::nodes::store;
-use crate::words::record_count;
-use crate::words::variable_count;
 use diagram::Node;
 use diagram::Position;
 use diagram::field_p;
@@ -11,14 +6,19 @@ use diagram::field_q;
 use diagram::field_r;
 use diagram::kind;
 use diagram::word_at;
+use implication::Fault;
+use implication::position_of;
+use implication::record_count;
+use implication::store;
+use implication::variable_count;
 ghost use mathlib.Core.Path.{_≡_};
 ghost use mathlib.Core.Option.{none};
 ghost use mathlib.Core.List.{List};
 ghost use Prim.Native.Nat.{ℕ, _<_};
 ghost use Rattle.diagram.specs.Table.{Record};
 ghost use Rattle.diagram.specs.Checks.{headingFault, recordFault, isChild, isRecordWord};
-ghost use Rattle.reading.specs.Answer.{faultOf};
-ghost use Rattle.reading.specs.Nodes.{Placed};
+ghost use Rattle.implication.specs.Answer.{faultOf};
+ghost use Rattle.implication.specs.Nodes.{Placed};
 
 // Check 17. That the heading is right, check 12 has shown.
 pub fn record_fault(file: &[u8]) -> Fault

@@ -1,20 +1,21 @@
 // The checks 14 to 16: the variable words, the number of choices and the product of b.
 use crate::answer::Bounded;
-use crate::answer::Fault;
-use crate::words::variable_count;
 use diagram::Position;
 use diagram::field_p;
 use diagram::field_q;
 use diagram::field_r;
 use diagram::kind;
 use diagram::word_at;
+use implication::Fault;
+use implication::is_choice;
+use implication::variable_count;
 ghost use mathlib.Core.Path.{_≡_};
-ghost use Prim.Native.Nat.{_≤_, _<_, _*_, _+_, _^_};
+ghost use Prim.Native.Nat.{_<_, _*_, _+_, _^_};
 ghost use lib.Dec.{ltb};
-ghost use Rattle.diagram.specs.Words.{wordAt};
-ghost use Rattle.diagram.specs.Table.{tableOf, choiceCount, scaleOf, variableOf, isChoice};
+ghost use Rattle.diagram.specs.Table.{tableOf, choiceCount, scaleOf};
 ghost use Rattle.diagram.specs.Checks.{isVariableWord, variableFault, choiceFault, scaleFault};
-ghost use Rattle.reading.specs.Answer.{faultOf, boundedBy};
+ghost use Rattle.implication.specs.Answer.{faultOf};
+ghost use Rattle.reading.specs.Answer.{boundedBy};
 
 // Check 14.
 pub fn variable_fault(file: &[u8]) -> Fault
@@ -56,13 +57,6 @@ fn is_variable_word(at: Position, w: u32) -> bool
         return false;
     }
     a <= b
-}
-
-// Whether the variable at a position is a choice.
-pub fn is_choice(file: &[u8], at: Position) -> bool
-    ensures { λ r. ⌜ r ≡ isChoice (variableOf (wordAt (now (file .entry)) (1 + at .0))) ⌝ }
-{
-    kind(word_at(file, at.word())) == 2
 }
 
 // Check 15: the number of choices.

@@ -1,31 +1,15 @@
 // The checks 11 to 13: the file's length and its heading.
-use crate::answer::Fault;
 use diagram::field_p;
 use diagram::field_q;
 use diagram::field_r;
 use diagram::kind;
 use diagram::word_at;
+use implication::Fault;
+use implication::record_count;
+use implication::variable_count;
 ghost use mathlib.Core.Path.{_≡_};
-ghost use Prim.Native.Nat.{_<_};
-ghost use Rattle.diagram.specs.Table.{variableCount, recordCount};
 ghost use Rattle.diagram.specs.Checks.{lengthFault, isHeading, headingFault, countFault};
-ghost use Rattle.reading.specs.Answer.{faultOf};
-
-// V, the number of variables: P of the heading.
-pub fn variable_count(file: &[u8]) -> u8
-    ensures count { λ r. ⌜ r ≡ variableCount (now (file .entry)) ⌝ }
-    ensures small { λ r. ⌜ r < 64 ⌝ }
-{
-    field_p(word_at(file, 0)) as u8
-}
-
-// N, the number of records: Q of the heading.
-pub fn record_count(file: &[u8]) -> usize
-    ensures count { λ r. ⌜ r ≡ recordCount (now (file .entry)) ⌝ }
-    ensures small { λ r. ⌜ r < 2048 ⌝ }
-{
-    field_q(word_at(file, 0)) as usize
-}
+ghost use Rattle.implication.specs.Answer.{faultOf};
 
 // Check 11.
 pub fn length_fault(file: &[u8]) -> Fault

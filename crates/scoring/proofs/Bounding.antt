@@ -12,8 +12,8 @@ use Rattle.diagram.specs.Plans.{openTaken, upperBound}
 use Rattle.diagram.proofs.Checked.{Passed}
 use Rattle.diagram.proofs.Locality.{position-le}
 use Rattle.diagram.proofs.FirstVariable.{score-le-scale, scale-positive}
-use Rattle.reading.specs.Nodes.{column}
-use Rattle.reading.proofs.Counting.{variables-length}
+use Rattle.implication.specs.Nodes.{column}
+use Rattle.implication.proofs.Choosing.{variables-length}
 use Rattle.reading.proofs.Accepted.{passed-formed, passed-shares, passed-scale, passed-variables, passed-records}
 use Rattle.scoring.specs.Value.{place, value, gap, highArc, lowArc}
 use Rattle.scoring.specs.Passes.{over, byNode, products, Decoded, marksByPosition, Marked}

@@ -8,7 +8,7 @@ use lib.Dec.{eqb}
 use Rattle.diagram.specs.Table.{Variable, Table, Record, chance, sequence, tableOf, variableCount, isChoice, choiceCount, scaleOf}
 use Rattle.diagram.proofs.Truth.{Formed}
 use Rattle.diagram.proofs.FirstVariable.{Shares}
-use Rattle.reading.specs.Nodes.{column}
+use Rattle.implication.specs.Nodes.{column}
 use Rattle.scoring.specs.Value.{marksFrom, highShare, lowShare, highArc, lowArc}
 
 -- A list written over the front of another

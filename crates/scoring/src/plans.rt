@@ -4,7 +4,7 @@ use reading::Fault;
 ghost use mathlib.Core.Path.{_≡_};
 ghost use mathlib.Core.List.{[]};
 ghost use Rattle.diagram.specs.Checks.{planMarkFault, fullPlanFault};
-ghost use Rattle.reading.specs.Answer.{faultOf};
+ghost use Rattle.implication.specs.Answer.{faultOf};
 
 // The first mark above 2.
 pub fn mark_fault(plan: &[u8]) -> Fault

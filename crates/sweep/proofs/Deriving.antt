@@ -22,7 +22,7 @@ use Rattle.diagram.proofs.Places.{sequence-length, sequence-at}
 use Rattle.diagram.proofs.Locality.{position-le, position-less}
 use Rattle.diagram.proofs.FirstVariable.{scale-positive}
 use Rattle.diagram.proofs.Rising.{Monotone}
-use Rattle.reading.proofs.Pairing.{column-at}
+use Rattle.implication.proofs.Pairing.{column-at}
 use Rattle.scoring.specs.Value.{place, value, gap, variableAt, markAt, highWeight, lowWeight}
 use Rattle.scoring.specs.Passes.{over, byNode, highInForce, lowInForce, markAtNode, Arcs, passUp, Fits, Marked}
 use Rattle.scoring.proofs.Values.{gap-scale, shares-drop, weights-scale, value-le, value-false, value-true, value-step, score-value}

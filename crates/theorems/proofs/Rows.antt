@@ -20,7 +20,7 @@ use Rattle.diagram.specs.Checks.{Check, placeZero, firstPlace, isHeading, isVar
 use Rattle.diagram.proofs.Every.{both, and-true-both, every-append, every-map, each-assignment, implied, implication}
 use Rattle.diagram.proofs.Places.{none-at}
 use Rattle.diagram.proofs.Checked.{Passed}
-use Rattle.reading.proofs.Shape.{none-passes, shaped-record-word}
+use Rattle.implication.proofs.Shape.{none-passes, shaped-record-word}
 use Rattle.reading.proofs.Accepted.{passed-choices, passed-scale}
 use Rattle.theorems.specs.Reasons.{Request, Reason, jobWord, tableLength, headingWord, wordCount, variableWord, choiceLimit, scaleLimit, recordWord, notMonotone, planLength, planMark, fullPlanMark, percentLimit, budgetLimit, bufferLength, JobWord, HeadingWord, ChoiceWord, ChanceWord, Child, RecordWord, MonotoneAt, Wrong, WholeTable}
 use Rattle.theorems.proofs.Saying.{Says, says-less, says-most, says-same, in-words, says-not, says-both, says-either, says-then}

@@ -10,11 +10,11 @@ use Rattle.diagram.specs.Words.{wordAt}
 use Rattle.diagram.specs.Table.{Record, recordAt, recordOf, tableOf, variableCount, recordCount}
 use Rattle.diagram.specs.Checks.{recordFault, firstPlace, isRecordWord}
 use Rattle.diagram.proofs.Places.{place-start, place-here, place-next, place-end}
-use Rattle.reading.specs.Answer.{faultOf}
-use Rattle.reading.specs.declared.answer.Fault.the-variants.{At}
-use Rattle.reading.proofs.Shape.{heading-records, record-at-word, record-at-fault, record-test}
-use Rattle.reading.proofs.Columns.{Filled, fill-alike, fill-next, filled-placed}
-use Rattle.reading.specs.Nodes.{Placed}
+use Rattle.implication.specs.Answer.{faultOf}
+use Rattle.implication.specs.Nodes.{Placed}
+use Rattle.implication.specs.declared.answer.Fault.the-variants.{At}
+use Rattle.implication.proofs.Shape.{heading-records, record-at-word, record-at-fault, record-test}
+use Rattle.implication.proofs.Columns.{Filled, fill-alike, fill-next, filled-placed}
 use Rattle.reading.proofs.records.record_fault.Statement.{statement}
 use Rattle.reading.proofs.records.record_fault.Tie as tie
 

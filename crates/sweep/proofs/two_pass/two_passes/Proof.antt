@@ -5,7 +5,7 @@ use mathlib.Core.Path.{_≡_, refl, sym, _∙_}
 use lib.ListN.{length}
 use Rattle.diagram.specs.Table.{tableOf}
 use Rattle.diagram.specs.Plans.{derivative}
-use Rattle.reading.proofs.Counting.{variables-length}
+use Rattle.implication.proofs.Choosing.{variables-length}
 use Rattle.reading.proofs.Accepted.{records-length, passed-variables, passed-choices, passed-monotone}
 use Rattle.scoring.specs.Passes.{Marked}
 use Rattle.scoring.proofs.Bounding.{marked, records-few}

@@ -1,0 +1,3 @@
+-- What the enum of this crate stands for, and what its arrays hold.
+pub mod Answer
+pub mod Nodes

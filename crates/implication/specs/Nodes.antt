@@ -1,0 +1,130 @@
+-- The arrays by node number that a table's records are copied to, and the stack of pairs of nodes.
+use Prim.Native.Nat.{ℕ, zero, suc, _+_, _-_, _*_, _/_, _%_, _^_, _≤_, _<_, min}
+use mathlib.Core.Path.{_≡_}
+use mathlib.Core.Bool.{Bool, true, false, cond}
+use mathlib.Core.Logic.{_⊎_}
+use mathlib.Core.Option.{none}
+use mathlib.Core.List.{List, _∷_}
+use lib.ListN.{length, getD}
+use lib.Dec.{eqb, leb}
+use Rattle.diagram.specs.Table.{Record, sequence, recordAt, tableOf, variableCount}
+use Rattle.diagram.specs.Score.{implies}
+use Rattle.diagram.specs.Checks.{headingFault, countFault, recordFault, positionOf, isMonotoneAt}
+use Rattle.diagram.proofs.Truth.{Formed}
+
+-- One part of every record, at its node's number, with `end` for the two ends. There are 256 nodes at most.
+unfoldable pub column : ℕ → (Record → ℕ) → List Record → List ℕ
+column end part rs = end ∷ end ∷ sequence (λ k. part (recordAt rs k)) 0 254
+
+-- The records that three such arrays hold
+unfoldable pub recordsOf : (positions high low : List ℕ) → List Record
+recordsOf ps hs ls =
+    sequence (λ k. record { position = getD ps (k + 2) 0; hi = getD hs (k + 2) 0; lo = getD ls (k + 2) 0 }) 0 254
+
+-- The position of the ends, which the array of positions has at node 0
+unfoldable pub endOf : (positions : List ℕ) → ℕ
+endOf ps = getD ps 0 0
+
+-- The array has the positions of the two ends and of the first k records
+pub record Placed (v : ℕ) (rs : List Record) (ps : List ℕ) (k : ℕ) : Type 0 where
+  pub at : (n : ℕ) → n < k + 2 → getD ps n 0 ≡ positionOf v rs n
+
+-- A file that the checks up to 17 let through, as far as its records go
+pub record Shaped (s : List ℕ) : Type 0 where
+  pub heading : headingFault s ≡ none
+  pub count : countFault s ≡ none
+  pub records : recordFault s ≡ none
+
+-- The arrays hold the records of a file that the checks up to 17 let through
+pub record Held (s ps hs ls : List ℕ) : Type 0 where
+  pub shaped : Shaped s
+  pub positions : ps ≡ column (variableCount s) (λ (r : Record). r .position) (tableOf s .records)
+  pub high : hs ≡ column 0 (λ (r : Record). r .hi) (tableOf s .records)
+  pub low : ls ≡ column 0 (λ (r : Record). r .lo) (tableOf s .records)
+
+-- What passing a pair on needs: arrays that hold records as check 17 wants them, both ends at one position, which is at most
+-- 60, and 0 for the ends' children
+pub record Pairs (ps hs ls : List ℕ) : Type 0 where
+  pub formed : Formed (endOf ps) (recordsOf ps hs ls)
+  pub ends : getD ps 1 0 ≡ endOf ps
+  pub few : endOf ps ≤ 60
+  pub highEnds : (n : ℕ) → n < 2 → getD hs n 0 ≡ 0
+  pub lowEnds : (n : ℕ) → n < 2 → getD ls n 0 ≡ 0
+
+-- Where m of the pair m, n leads to by the children in cs: to its child, unless n stands at a smaller position
+abbrev pub next : (ps cs : List ℕ) → (m n : ℕ) → ℕ
+next ps cs m n = cond (leb (getD ps m 0) (getD ps n 0)) (getD cs m 0) m
+
+-- The smaller position of two nodes
+abbrev pub smaller : List ℕ → (m n : ℕ) → ℕ
+smaller ps m n = min (getD ps m 0) (getD ps n 0)
+
+-- The pairs of which it is known at once that the first node implies the second
+abbrev pub AtOnce : (m n : ℕ) → Type 0
+AtOnce m n = (m ≡ 0) ⊎ ((n ≡ 1) ⊎ (m ≡ n))
+
+-- Whether a pair is such
+unfoldable pub isKnown : (m n : ℕ) → Bool
+isKnown m n = cond (eqb m 0) true (cond (eqb n 1) true (eqb m n))
+
+-- The bit of a pair of nodes, of which there are 256 for each first node, in four words
+unfoldable pub bit : List ℕ → (m n : ℕ) → ℕ
+bit met m n = getD met (m * 4 + n / 64) 0 / 2 ^ (n % 64) % 2
+
+-- The cell of a pair of nodes: 1 where the pair is known at once or its bit says that it has been met, and else 0
+unfoldable pub cell : List ℕ → (m n : ℕ) → ℕ
+cell met m n = cond (isKnown m n) 1 (bit met m n)
+
+-- How many of the first pairs have the cell 0
+unfoldable pub zerosBelow : List ℕ → ℕ → ℕ
+zerosBelow met zero = 0
+zerosBelow met (suc i) = zerosBelow met i + (1 - cell met (i / 256) (i % 256))
+
+-- How many cells are 0
+unfoldable pub zeros : List ℕ → ℕ
+zeros met = zerosBelow met 65536
+
+-- The cells of met′ are those of met, but for that of the pair m, n, which is 1
+pub record Marked (met met′ : List ℕ) (m n : ℕ) : Type 0 where
+  pub size : length met′ ≡ length met
+  pub here : cell met′ m n ≡ 1
+  pub kept : (p q : ℕ) → cell met p q ≡ 1 → cell met′ p q ≡ 1
+  pub others : (p q : ℕ) → p < 256 → q < 256 → ((p ≡ m) × (q ≡ n)) ⊎ (cell met′ p q ≡ cell met p q)
+
+-- The stack has at most 62 pairs, so that there is room for one more
+pub record Room (met firsts seconds : List ℕ) (depth : ℕ) : Type 0 where
+  pub size : length met ≡ 1024
+  pub firstsSize : length firsts ≡ 128
+  pub secondsSize : length seconds ≡ 128
+  pub shallow : depth ≤ 62
+
+-- Both pairs that m, n leads to have been met
+pub record PassedOn (ps hs ls met : List ℕ) (m n : ℕ) : Type 0 where
+  pub high : cell met (next ps hs m n) (next ps hs n m) ≡ 1
+  pub low : cell met (next ps ls m n) (next ps ls n m) ≡ 1
+
+-- The pair m, n stands on the stack
+pub record Waits (firsts seconds : List ℕ) (depth m n : ℕ) : Type 0 where
+  pub slot : ℕ
+  pub below : slot < depth
+  pub first : getD firsts slot 0 ≡ m
+  pub second : getD seconds slot 0 ≡ n
+
+-- The stack of the pairs met: those on it are still to be passed on, as is the pair m, n that has been taken off last (0, 0 where
+-- there is none), a pair with j others under it stands at position j - 1 or later, and all pairs met imply if the pair a, b does
+pub record Stack (ps hs ls met firsts seconds : List ℕ) (a b m n depth : ℕ) : Type 0 where
+  pub pairs : Pairs ps hs ls
+  pub room : Room met firsts seconds depth
+  pub asked : cell met a b ≡ 1
+  pub origin : cell met 0 0 ≡ 1
+  pub small : (j : ℕ) → j < depth → (getD firsts j 0 < 256) × (getD seconds j 0 < 256)
+  pub waiting : (j : ℕ) → j < depth → cell met (getD firsts j 0) (getD seconds j 0) ≡ 1
+  pub deep : (j : ℕ) → j < depth → j ≤ smaller ps (getD firsts j 0) (getD seconds j 0) + 1
+  pub traced : (p q : ℕ) → p < 256 → q < 256 → cell met p q ≡ 1 → AtOnce p q ⊎ (PassedOn ps hs ls met p q ⊎ (Waits firsts seconds depth p q ⊎ ((p ≡ m) × (q ≡ n))))
+  pub right : implies (endOf ps) (recordsOf ps hs ls) a b ≡ true → (p q : ℕ) → p < 256 → q < 256 → cell met p q ≡ 1 → implies (endOf ps) (recordsOf ps hs ls) p q ≡ true
+
+-- What passing on all pairs that record k leads to gives: the pair of true and false is met where the record is not
+-- monotone, and else all pairs met imply
+pub record Explored (s ps hs ls met firsts seconds : List ℕ) (k : ℕ) : Type 0 where
+  pub fault : cell met 1 0 ≡ 1 → isMonotoneAt (tableOf s) k ≡ false
+  pub passes : (cell met 1 0 ≡ 1 → ⊥) → (isMonotoneAt (tableOf s) k ≡ true) × Stack ps hs ls met firsts seconds 0 0 0 0 0

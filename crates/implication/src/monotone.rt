@@ -1,0 +1,213 @@
+// Check 18: at every choice record the low child implies the high one, under every assignment of the variables.
+// A pair of nodes implies where both pairs that it leads to at the smaller position of the two do. So each choice record's pair
+// is put on a stack, the pair on top is taken off and the two that it leads to are put on, unless they are known to imply at once
+// or have been met, until the stack is empty, and a record is at fault where the pair of true and false is met. A pair leads to
+// pairs at later positions, so that the stack has at most two pairs more than the table has variables. The pairs met are bits of
+// an array, 256 for each first node.
+use crate::answer::Fault;
+use crate::nodes::child_of;
+use crate::nodes::position_of;
+use crate::variables::is_choice;
+use crate::words::record_count;
+use crate::words::variable_count;
+use diagram::Node;
+use diagram::Position;
+ghost use mathlib.Core.Path.{_≡_};
+ghost use Prim.Native.Nat.{ℕ, suc, _+_, _-_, _<_};
+ghost use lib.ListN.{length, set};
+ghost use lib.Dec.{eqb};
+ghost use Rattle.diagram.specs.Table.{recordCount};
+ghost use Rattle.diagram.specs.Checks.{monotoneFault};
+ghost use Rattle.implication.specs.Answer.{faultOf};
+ghost use Rattle.implication.specs.Nodes.{Held, next, isKnown, cell, zeros, Marked, Room, Stack, Explored};
+
+// Check 18. The arrays hold the records of a file that the checks before let through.
+pub fn monotone_fault(
+    file: &[u8],
+    positions: &[u8; 256],
+    high: &[u8; 256],
+    low: &[u8; 256],
+) -> Fault
+    requires { ⌜ Held (now file) (now positions) (now high) (now low) ⌝ }
+    ensures { λ r. ⌜ r ≡ faultOf (monotoneFault (now (file .entry))) ⌝ }
+{
+    let mut met = [0u64; 1024];
+    let mut firsts = [0u8; 128];
+    let mut seconds = [0u8; 128];
+    first_fault(
+        file,
+        &mut met,
+        &mut firsts,
+        &mut seconds,
+        positions,
+        high,
+        low,
+    )
+}
+
+// The first record at fault. The arrays hold the file's records.
+fn first_fault(
+    file: &[u8],
+    met: &mut [u64; 1024],
+    firsts: &mut [u8; 128],
+    seconds: &mut [u8; 128],
+    positions: &[u8; 256],
+    high: &[u8; 256],
+    low: &[u8; 256],
+) -> Fault
+    requires { ⌜ Held (now file) (now positions) (now high) (now low) × Stack (now positions) (now high) (now low) (now met) (now firsts) (now seconds) 0 0 0 0 0 ⌝ }
+    ensures { λ r. ⌜ r ≡ faultOf (monotoneFault (now (file .entry))) ⌝ }
+{
+    let end = Position::new(variable_count(file));
+    let n = record_count(file);
+    let mut k = 0;
+    while k < n {
+        explore_record(file, met, firsts, seconds, positions, high, low, k);
+        if is_met(met, Node::new(1), Node::new(0)) {
+            return Fault::At(end.word() + k);
+        }
+        k += 1;
+    }
+    Fault::Nowhere
+}
+
+// Meets the pair of a choice record's children, low and high, and all pairs that it leads to.
+fn explore_record(
+    file: &[u8],
+    met: &mut [u64; 1024],
+    firsts: &mut [u8; 128],
+    seconds: &mut [u8; 128],
+    positions: &[u8; 256],
+    high: &[u8; 256],
+    low: &[u8; 256],
+    k: usize,
+)
+    requires { ⌜ Held (now file) (now positions) (now high) (now low) × (k < recordCount (now file)) × Stack (now positions) (now high) (now low) (now met) (now firsts) (now seconds) 0 0 0 0 0 ⌝ }
+    ensures { λ _. ⌜ Explored (now (file .entry)) (now (positions .entry)) (now (high .entry)) (now (low .entry)) (now (met .exit)) (now (firsts .exit)) (now (seconds .exit)) k ⌝ }
+{
+    let node = Node::of_record(k);
+    if !is_choice(file, position_of(positions, node)) {
+        return;
+    }
+    let depth = meet(
+        met,
+        firsts,
+        seconds,
+        0,
+        child_of(low, node),
+        child_of(high, node),
+    );
+    explore(met, firsts, seconds, positions, high, low, depth);
+}
+
+// Passes on every pair of the stack, and those that are met on the way, until the stack is empty.
+fn explore(
+    met: &mut [u64; 1024],
+    firsts: &mut [u8; 128],
+    seconds: &mut [u8; 128],
+    positions: &[u8; 256],
+    high: &[u8; 256],
+    low: &[u8; 256],
+    start: usize,
+)
+    requires { ⌜ ((a : ℕ) × (b : ℕ) × Stack (now positions) (now high) (now low) (now met) (now firsts) (now seconds) a b 0 0 start) ⌝ }
+    ensures { λ _. ⌜ ((a b : ℕ) → Stack (now (positions .entry)) (now (high .entry)) (now (low .entry)) (now (met .entry)) (now (firsts .entry)) (now (seconds .entry)) a b 0 0 start → Stack (now (positions .entry)) (now (high .entry)) (now (low .entry)) (now (met .exit)) (now (firsts .exit)) (now (seconds .exit)) a b 0 0 0) ⌝ }
+{
+    let mut depth = start;
+    while depth > 0 {
+        let top = depth - 1;
+        depth = pass_on(met, firsts, seconds, positions, high, low, top);
+    }
+}
+
+// Takes the pair at top off and meets the two pairs that it leads to. Answers the new depth.
+fn pass_on(
+    met: &mut [u64; 1024],
+    firsts: &mut [u8; 128],
+    seconds: &mut [u8; 128],
+    positions: &[u8; 256],
+    high: &[u8; 256],
+    low: &[u8; 256],
+    top: usize,
+) -> usize
+    requires { ⌜ ((a : ℕ) × (b : ℕ) × Stack (now positions) (now high) (now low) (now met) (now firsts) (now seconds) a b 0 0 (suc top)) ⌝ }
+    ensures stack { λ r. ⌜ ((a b : ℕ) → Stack (now (positions .entry)) (now (high .entry)) (now (low .entry)) (now (met .entry)) (now (firsts .entry)) (now (seconds .entry)) a b 0 0 (suc top) → Stack (now (positions .entry)) (now (high .entry)) (now (low .entry)) (now (met .exit)) (now (firsts .exit)) (now (seconds .exit)) a b 0 0 r) ⌝ }
+    ensures left { λ r. ⌜ zeros (now (met .exit)) + r ≡ zeros (now (met .entry)) + top ⌝ }
+{
+    let m = Node::new(firsts[top]);
+    let n = Node::new(seconds[top]);
+    let high_m = step(positions, high, m, n);
+    let high_n = step(positions, high, n, m);
+    let low_m = step(positions, low, m, n);
+    let low_n = step(positions, low, n, m);
+    let depth = meet(met, firsts, seconds, top, high_m, high_n);
+    meet(met, firsts, seconds, depth, low_m, low_n)
+}
+
+// Where m of the pair m, n leads to: its child, unless n stands at a smaller position. The child is read in any case, so that
+// there is no branch.
+fn step(positions: &[u8; 256], children: &[u8; 256], m: Node, n: Node) -> Node
+    ensures { λ r. ⌜ r .0 ≡ next (now (positions .entry)) (now (children .entry)) (m .0) (n .0) ⌝ }
+{
+    let p = position_of(positions, m);
+    let q = position_of(positions, n);
+    let child = child_of(children, m);
+    if p.number() <= q.number() { child } else { m }
+}
+
+// Writes a pair on top of the stack, whose depth rises only where the pair is neither known to imply nor met before.
+fn meet(
+    met: &mut [u64; 1024],
+    firsts: &mut [u8; 128],
+    seconds: &mut [u8; 128],
+    depth: usize,
+    m: Node,
+    n: Node,
+) -> usize
+    requires { ⌜ Room (now met) (now firsts) (now seconds) depth ⌝ }
+    ensures depth { λ r. ⌜ r ≡ depth + (1 - cell (now (met .entry)) (m .0) (n .0)) ⌝ }
+    ensures met { λ _. ⌜ Marked (now (met .entry)) (now (met .exit)) (m .0) (n .0) ⌝ }
+    ensures firsts { λ _. ⌜ now (firsts .exit) ≡ set (now (firsts .entry)) depth (m .0) ⌝ }
+    ensures seconds { λ _. ⌜ now (seconds .exit) ≡ set (now (seconds .entry)) depth (n .0) ⌝ }
+{
+    firsts[depth] = m.byte();
+    seconds[depth] = n.byte();
+    if is_met(met, m, n) {
+        return depth;
+    }
+    mark(met, m, n);
+    depth + 1
+}
+
+// Whether a pair is known to imply at once or its bit says that it has been met.
+fn is_met(met: &[u64; 1024], m: Node, n: Node) -> bool
+    ensures { λ r. ⌜ r ≡ eqb (cell (now (met .entry)) (m .0) (n .0)) 1 ⌝ }
+{
+    if is_known(m, n) {
+        return true;
+    }
+    let word = met[m.number() * 4 + n.number() / 64];
+    (word >> (n.number() % 64)) % 2 == 1
+}
+
+// Whether a pair is known to imply at once: false implies every node, every node implies true, and each itself.
+fn is_known(m: Node, n: Node) -> bool
+    ensures { λ r. ⌜ r ≡ isKnown (m .0) (n .0) ⌝ }
+{
+    if m.number() == 0 {
+        return true;
+    }
+    if n.number() == 1 {
+        return true;
+    }
+    m.number() == n.number()
+}
+
+// Marks a pair as met that is neither known to imply nor met before.
+fn mark(met: &mut [u64; 1024], m: Node, n: Node)
+    requires { ⌜ (length (now met) ≡ 1024) × (cell (now met) (m .0) (n .0) ≡ 0) ⌝ }
+    ensures { λ _. ⌜ Marked (now (met .entry)) (now (met .exit)) (m .0) (n .0) ⌝ }
+{
+    let i = m.number() * 4 + n.number() / 64;
+    met[i] |= 1 << (n.number() % 64);
+}
