@@ -2,9 +2,12 @@
 use Prim.Native.Nat.{ℕ, _+_, _-_, _≤_, _<_}
 use native.Mathlib.Omega.{arith}
 use mathlib.Core.Path.{_≡_, refl, ap, sym, _∙_}
+use mathlib.Core.Option.{none}
+use mathlib.Core.List.{List}
 use borrow.Author.Needs.{needs}
 use Rattle.diagram.specs.Words.{wordAt}
 use Rattle.diagram.specs.Table.{Record, recordAt, recordOf, tableOf, variableCount}
+use Rattle.diagram.specs.Checks.{countFault}
 use Rattle.implication.specs.Nodes.{column}
 use Rattle.implication.proofs.Shape.{shaped-formed, shaped-record-at}
 use Rattle.implication.proofs.Columns.{Filled, fill-ends, fill-next, fill-all}
@@ -29,11 +32,15 @@ abbrev μ-loop : tie.MeasureT-loop
 abbrev record-of : tie.After-word-at Inv-loop μ-loop → Record
 record-of c = recordAt (tableOf (c .before .before .before .before .before .before .before .before .before .before .before .args .file .now) .records) (c .before .before .loop .k)
 
+-- the record of a word, at the numbers that the code has read
+read-at : (s : List ℕ) (k : ℕ) {w i v : ℕ} → countFault s ≡ none → v ≡ variableCount s → w ≡ wordAt s i → i ≡ 1 + v + k → recordOf w ≡ recordAt (tableOf s .records) k
+read-at s k h count read place = rw (read, place, count) (sym (shaped-record-at s h k))
+
 record-read : (c : tie.After-word-at Inv-loop μ-loop) → recordOf (c .word-at .result) ≡ record-of c
 record-read c =
-    let s = c .before .before .before .before .before .before .before .before .before .before .before .args .file .now in
-    let k = c .before .before .loop .k in
-    ap recordOf (c .word-at .ensures ∙ ap (λ (v : ℕ). wordAt s (1 + v + k)) (c .before .before .loop .inv .0)) ∙ sym (shaped-record-at s (c .before .before .before .before .before .before .before .before .before .before .before .pre .0 .count) k)
+    let a = c .before .before .before .before .before .before .before .before .before .before .before in
+    let at = c .before .before .loop in
+    read-at (a .args .file .now) (at .k) (a .pre .0 .count) (at .inv .0) (c .word-at .ensures) refl
 
 position-read : (c : tie.After-field-p Inv-loop μ-loop) → c .field-p .result ≡ record-of (c .before .before) .position
 unfolding recordOf
