@@ -74,7 +74,7 @@ fn times<const N: usize>(rounds: usize, calls: u32, mut run: impl FnMut(usize)) 
     least
 }
 
-/// Whose search it is.
+/// Whose read, sweep or search it is.
 #[derive(Clone, Copy, PartialEq, Eq)]
 enum Program {
     Library,
@@ -92,6 +92,32 @@ const PROGRAMS: &[Program] = &[
     Program::Plain(Form::Fetched),
     Program::Plain(Form::Sweeps),
 ];
+
+/// Those whose read and sweep are timed; plain Rust has one of each.
+const SWEEPERS: &[Program] = &[
+    Program::Library,
+    #[cfg(before)]
+    Program::Before,
+    Program::Plain(Form::Sweeps),
+];
+
+fn read(program: Program, file: &[u8]) -> bool {
+    match program {
+        Program::Library => black_box(jigbalo::read(file)).is_ok(),
+        #[cfg(before)]
+        Program::Before => black_box(crate::before::read(file)).is_ok(),
+        Program::Plain(_) => black_box(plain::read(file)).is_ok(),
+    }
+}
+
+fn sweep(program: Program, file: &[u8], drops: &mut [u64]) -> bool {
+    match program {
+        Program::Library => black_box(jigbalo::sweep(file, &OPEN, drops)).is_ok(),
+        #[cfg(before)]
+        Program::Before => black_box(crate::before::sweep(file, &OPEN, drops)).is_ok(),
+        Program::Plain(_) => black_box(plain::sweep(file, &OPEN, drops)).is_ok(),
+    }
+}
 
 fn search(program: Program, file: &[u8], kits: u32) -> (Result<Finding, Refusal>, [u8; 20]) {
     let mut plan = [0; 20];
@@ -112,16 +138,9 @@ fn line(job: &Job) {
     assert!(answers[1..].iter().all(|other| *other == answers[0]), "{answers:?}");
     assert!(answers[0].0.is_ok_and(|found| found.visits == job.visits));
 
-    let [read, plain_read] = times(2000, 50, |i| {
-        let file = black_box(file);
-        black_box(if i == 0 { jigbalo::read(file) } else { plain::read(file) }).ok();
-    });
+    let reads: [f64; SWEEPERS.len()] = times(2000, 50, |i| assert!(read(SWEEPERS[i], black_box(file))));
     let mut drops = [0; 20];
-    let [sweep, plain_sweep] = times(2000, 50, |i| {
-        let file = black_box(file);
-        let top = if i == 0 { jigbalo::sweep(file, &OPEN, &mut drops) } else { plain::sweep(file, &OPEN, &mut drops) };
-        black_box(top).ok();
-    });
+    let sweeps: [f64; SWEEPERS.len()] = times(2000, 50, |i| assert!(sweep(SWEEPERS[i], black_box(file), &mut drops)));
     let rounds = (4_000_000 / job.visits as usize).clamp(7, 200);
     let visit: [f64; PROGRAMS.len()] = times(rounds, 1, |i| {
         black_box(search(PROGRAMS[i], black_box(file), job.kits)).0.ok();
@@ -129,8 +148,11 @@ fn line(job: &Job) {
     .map(|x| x / job.visits as f64);
 
     print!("{:<9} {:>7} {:>4} {:>7}", job.name, job.draft.records.len(), job.kits, job.visits);
-    for (ours, theirs) in [(read, plain_read), (sweep, plain_sweep)] {
-        print!(" | {:>7.1} {:>5.1} {:>5.2}", ours / 1e3, theirs / 1e3, ours / theirs);
+    for times in [reads, sweeps] {
+        print!(" | {:>7.1}", times[0] / 1e3);
+        for theirs in &times[1..] {
+            print!(" {:>6.1} {:>5.2}", theirs / 1e3, times[0] / theirs);
+        }
     }
     print!(" | {:>7.1}", visit[0]);
     for theirs in &visit[1..] {
@@ -141,11 +163,13 @@ fn line(job: &Job) {
 
 /// A line for each job. A ratio is the library's time over the time before it.
 pub fn table() {
-    println!("{:<30} | {:<19} | {:<19} | search, ns a visit", "", "read, µs", "sweep, µs");
+    let before = if cfg!(before) { " before ratio" } else { "" };
+    let width = 20 + before.len();
+    println!("{:<30} | {:<width$} | {:<width$} | search, ns a visit", "", "read, µs", "sweep, µs");
     println!(
-        "job       records kits  visits | library plain ratio | library plain ratio | library \
-         {}pass up ratio    sent ratio fetched ratio  sweeps ratio",
-        if cfg!(before) { " before ratio " } else { "" }
+        "job       records kits  visits | library{before}  plain ratio | library{before}  plain ratio | library\
+         {} pass up ratio    sent ratio fetched ratio  sweeps ratio",
+        if cfg!(before) { "  before ratio" } else { "" }
     );
     for (needed, kits) in [(10, 3), (10, 5), (8, 9)] {
         line(&threshold(needed, kits));
