@@ -6,7 +6,7 @@
    A slice is a pointer and a length in elements. No pointer is null, of an empty slice neither; what is written overlaps nothing else that
    is handed in. Any bytes, numbers and lengths may be handed in: there is nothing else to see to. A call takes no heap, keeps nothing, and
    may be made from any thread. Its stack, measured on tables of 60 variables, 254 records and 20 choices and rounded up: 10 KiB for a read,
-   20 for a score, 16 for a sweep or a filter, 36 for a search; 4 more at a first call that the linker binds only then.
+   20 for a score, 17 for a sweep or a filter, 36 for a search; 4 more at a first call that the linker binds only then.
 
    A plan has one byte a choice: 0 open, 1 taken, 2 left. */
 #ifndef JIGBALO_H

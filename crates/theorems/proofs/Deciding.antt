@@ -7,7 +7,7 @@ use mathlib.Core.List.{List, [], _∷_, _++_}
 use Rattle.diagram.specs.Checks.{Check, tableChecks}
 use Rattle.diagram.specs.Services.{Outcome, refused, answered, checked, reading, readOutcome}
 use Rattle.diagram.proofs.Checked.{checked-passes, checked-stops, checked-end, read-reading}
-use Rattle.theorems.specs.Reasons.{Request, Reason, numberOf, Wrong, fileReasons, TurnedAway, at-first, further-on, LetThrough, no-row, passes-row, fileAlone, Accepted}
+use Rattle.theorems.specs.Reasons.{Request, Reason, numberOf, Wrong, fileReasons, FirstReason, at-first, further-on, NoReason, no-row, passes-row, fileAlone, Accepted}
 use Rattle.theorems.proofs.Rows.{Renders, row-11, row-12, row-13, row-14, row-15, row-16, row-17, row-18}
 
 -- ---------------------------------------------------------------------------
@@ -15,8 +15,8 @@ use Rattle.theorems.proofs.Rows.{Renders, row-11, row-12, row-13, row-1
 
 -- They turn it away, or let it through to an answer
 pub data Decided {A : Type 0} (q : Request) (rs : List Reason) (o : Outcome A) : Type 0 where
-  stops : {n i : ℕ} → TurnedAway q rs n i → o ≡ refused n i → Decided q rs o
-  answers : (a : A) → LetThrough q rs → o ≡ answered a → Decided q rs o
+  stops : {n i : ℕ} → FirstReason q rs n i → o ≡ refused n i → Decided q rs o
+  answers : (a : A) → NoReason q rs → o ≡ answered a → Decided q rs o
 
 -- Rows in the order of the checks that look for them
 pub data Rendered (q : Request) : List Reason → List Check → Type 0 where
@@ -45,7 +45,7 @@ decide {A} {q} {ts = ts} (row {r} {rs} {c} {cs} number h rest) answer d = go (c 
         let f = h .finds i e in
         stops (at-first (f .0) (f .1)) (checked-stops c cs answer (q .file) i e ∙ ap (λ (n : ℕ). refused n i) number)
 
--- an answer to a request that is let through
+-- an answer where no row is left
 pub at-once : {A : Type 0} (q : Request) (a : A) → Decided q [] (answered a)
 at-once q a = answers a no-row refl
 
@@ -78,15 +78,15 @@ module _ (q : Request) where
 -- ---------------------------------------------------------------------------
 -- Accepted tables
 
--- a request that is let through is not turned away
-let-through : {q : Request} {rs : List Reason} {n i : ℕ} → LetThrough q rs → TurnedAway q rs n i → ⊥
-let-through (passes-row p l) (at-first w f) = p _ w
-let-through (passes-row p l) (further-on r t) = let-through l t
+-- where there is no reason, none is the first
+no-first-reason : {q : Request} {rs : List Reason} {n i : ℕ} → NoReason q rs → FirstReason q rs n i → ⊥
+no-first-reason (passes-row p l) (at-first w f) = p _ w
+no-first-reason (passes-row p l) (further-on r t) = no-first-reason l t
 
 -- reading answers an accepted table
 pub accepted-read : (s : List ℕ) → Accepted s → readOutcome s ≡ answered (reading s)
 accepted-read s h = go (read-decided (fileAlone s))
   where
     go : Decided (fileAlone s) fileReasons (readOutcome s) → readOutcome s ≡ answered (reading s)
-    go (stops t e) = absurd (let-through h t)
+    go (stops t e) = absurd (no-first-reason h t)
     go (answers a l e) = e ∙ ap answered (read-reading s a e)

@@ -29,7 +29,7 @@ use Rattle.sweep.specs.Answer.{sweepOf, filterOf}
 use Rattle.search.specs.declared.answer.SearchAnswer.the-variants as search-answer
 use Rattle.search.specs.Answer.{searchOf}
 use Rattle.theorems.specs.Reasons.{Request, Reason, jobWord, noWayPasses, noCandidate, numberOf, Wrong, fileReasons, scoreReasons, sweepReasons, filterReasons, searchReasons, programReasons, at-first, no-row, passes-row}
-use Rattle.theorems.specs.Demand1.{Judged, turned, served, Services, jobOf, Demand1}
+use Rattle.theorems.specs.Demand1.{Judged, refuses, serves, Services, jobOf, Demand1}
 use Rattle.theorems.proofs.Answers.{read-refused, table-is, score-refused, score-is, sweep-refused, bound-is, filter-refused, forced-is, search-refused, found-is}
 use Rattle.theorems.proofs.Completing.{no-way-passes}
 use Rattle.theorems.proofs.Deciding.{Decided, stops, answers, Rendered, end, row, one-more, decided-as, decide, at-once, file-rows, rendered-append, read-decided}
@@ -109,8 +109,8 @@ program-decided input = go (jobFault (take 1265 input)) refl
 
 -- an answer that stands for a decided outcome
 judge : {Answer A : Type 0} {q : Request} {rs : List Reason} {o : Outcome A} (stands : Answer → Outcome A) (refuse : Refusal → Answer) (Served : Answer → Type 0) (answer : Answer) → ((n i : ℕ) → stands answer ≡ refused n i → answer ≡ refuse (record { number = n; place = i })) → ((a : A) → o ≡ answered a → stands answer ≡ answered a → Served answer) → stands answer ≡ o → Decided q rs o → Judged q rs refuse Served answer
-judge stands refuse Served answer back serve e (stops {n} {i} t f) = turned n i t (back n i (e ∙ f))
-judge stands refuse Served answer back serve e (answers a l f) = served l (serve a f (e ∙ f))
+judge stands refuse Served answer back serve e (stops {n} {i} t f) = refuses n i t (back n i (e ∙ f))
+judge stands refuse Served answer back serve e (answers a l f) = serves l (serve a f (e ∙ f))
 
 -- a refused request leaves the buffer as it was
 kept : {A : Type 0} (part : A → List ℕ) {o : Outcome A} (held : List ℕ) {n i : ℕ} → refused n i ≡ o → written part o held ≡ held
@@ -120,8 +120,8 @@ kept part held e = rw (← e) refl
 -- a text that is printed of a decided outcome
 judge-text : {q : Request} {rs : List Reason} {o : Outcome Searching} (t : Table) (text : List ℕ) → text ≡ searchText t o → Decided q rs o → Judged q rs (λ r. refusalText (r .number) (r .place)) (λ a. (found : Searching) × (a ≡ planText t found)) text
 unfolding searchText
-judge-text t text e (stops {n} {i} s f) = turned n i s (e ∙ rw f refl)
-judge-text t text e (answers a l f) = served l (a, e ∙ rw f refl)
+judge-text t text e (stops {n} {i} s f) = refuses n i s (e ∙ rw f refl)
+judge-text t text e (answers a l f) = serves l (a, e ∙ rw f refl)
 
 -- the five services
 services : (q : Request) → Services q

@@ -24,13 +24,13 @@ use Rattle.search.specs.declared.answer.Finding.{Finding}
 use Rattle.search.specs.declared.answer.SearchAnswer.{SearchAnswer}
 use Rattle.search.specs.declared.answer.SearchAnswer.the-variants as search-answer
 use Rattle.search.specs.Answer.{searchOf}
-use Rattle.theorems.specs.Reasons.{Request, Reason, TurnedAway, LetThrough, WholeTable, fileReasons, scoreReasons, sweepReasons, filterReasons, searchReasons, programReasons}
+use Rattle.theorems.specs.Reasons.{Request, Reason, FirstReason, NoReason, WholeTable, fileReasons, scoreReasons, sweepReasons, filterReasons, searchReasons, programReasons}
 
 -- A request is "turned away with a number and a place from document 01", and "the first reason in that paper's order is the one returned"; or there is no
 -- reason, and it is served
 pub data Judged (q : Request) (reasons : List Reason) {Answer : Type 0} (refuse : Refusal → Answer) (Served : Answer → Type 0) (answer : Answer) : Type 0 where
-  turned : (number place : ℕ) → TurnedAway q reasons number place → answer ≡ refuse (record { number = number; place = place }) → Judged q reasons refuse Served answer
-  served : LetThrough q reasons → Served answer → Judged q reasons refuse Served answer
+  refuses : (number place : ℕ) → FirstReason q reasons number place → answer ≡ refuse (record { number = number; place = place }) → Judged q reasons refuse Served answer
+  serves : NoReason q reasons → Served answer → Judged q reasons refuse Served answer
 
 -- "a turned-away request leaves the plan and the drops as they were": the buffer that is written. The plan handed in is lent to be read alone.
 abbrev pub LeavesBuffer : {Answer : Type 0} → (refuse : Refusal → Answer) → (answer : Answer) → (held after : List ℕ) → Type 0

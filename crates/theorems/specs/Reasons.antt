@@ -190,15 +190,16 @@ searchReasons = fileReasons ++ planLength ∷ planMark ∷ percentLimit ∷ budg
 unfoldable pub programReasons : List Reason
 programReasons = jobWord ∷ searchReasons
 
--- A request is turned away with the number of the first row that finds it wrong at some place, and with the first such place
-pub data TurnedAway (q : Request) : List Reason → (number place : ℕ) → Type 0 where
-  at-first : {r : Reason} {rs : List Reason} {i : ℕ} → Wrong q r i → ((j : ℕ) → j < i → Wrong q r j → ⊥) → TurnedAway q (r ∷ rs) (numberOf r) i
-  further-on : {r : Reason} {rs : List Reason} {n i : ℕ} → ((j : ℕ) → Wrong q r j → ⊥) → TurnedAway q rs n i → TurnedAway q (r ∷ rs) n i
+-- "The first reason in that paper's order is the one returned": the number of the first row that finds the request wrong at some place, and the first
+-- such place
+pub data FirstReason (q : Request) : List Reason → (number place : ℕ) → Type 0 where
+  at-first : {r : Reason} {rs : List Reason} {i : ℕ} → Wrong q r i → ((j : ℕ) → j < i → Wrong q r j → ⊥) → FirstReason q (r ∷ rs) (numberOf r) i
+  further-on : {r : Reason} {rs : List Reason} {n i : ℕ} → ((j : ℕ) → Wrong q r j → ⊥) → FirstReason q rs n i → FirstReason q (r ∷ rs) n i
 
--- No row finds it wrong at any place
-pub data LetThrough (q : Request) : List Reason → Type 0 where
-  no-row : LetThrough q []
-  passes-row : {r : Reason} {rs : List Reason} → ((j : ℕ) → Wrong q r j → ⊥) → LetThrough q rs → LetThrough q (r ∷ rs)
+-- There is no reason to turn the request away: no row finds it wrong at any place
+pub data NoReason (q : Request) : List Reason → Type 0 where
+  no-row : NoReason q []
+  passes-row : {r : Reason} {rs : List Reason} → ((j : ℕ) → Wrong q r j → ⊥) → NoReason q rs → NoReason q (r ∷ rs)
 
 -- ---------------------------------------------------------------------------
 -- Accepted tables
@@ -209,7 +210,7 @@ fileAlone file = record { job = 0; file = file; plan = []; percent = 0; budget =
 
 -- "a table is accepted when reading has no ground to turn it away"
 abbrev pub Accepted : (file : List ℕ) → Type 0
-Accepted file = LetThrough (fileAlone file) fileReasons
+Accepted file = NoReason (fileAlone file) fileReasons
 
 -- A table file that is right from its first word to its last: "one heading, V variable words with positions 0 to V-1 in order, then N records", within
 -- all limits
