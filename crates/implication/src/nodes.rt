@@ -43,7 +43,8 @@ fn set_ends(cells: &mut [u8; 256], x: u8)
     cells[1] = x;
 }
 
-// Writes the cell of record k's node.
+// Writes the cell of record k's node. Whoever calls has one of at most 254 records, and a position, or a child that check 17 has
+// let through.
 pub fn store(cells: &mut [u8; 256], k: usize, x: u32)
     requires { ⌜ (k < 254) × (x < 256) ⌝ }
     ensures { λ _. ⌜ now (cells .exit) ≡ set (now (cells .entry)) (k + 2) x ⌝ }

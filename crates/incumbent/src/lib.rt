@@ -36,7 +36,8 @@ pub fn is_beaten(tally: &[u64; 3], bound: u64) -> bool
     bound < tally[0]
 }
 
-// The finished plan becomes the best held if it ranks before it, as it does where none is held.
+// The finished plan becomes the best held if it ranks before it, as it does where none is held. The lengths are the arrays' own;
+// `visit` keeps them.
 pub fn keep(marks: &[u8; 20], best: &mut [u8; 20], tally: &mut [u64; 3], room: u64, bound: u64)
     requires { ⌜ (length (now marks) ≡ 20) × (length (now best) ≡ 20) × (length (now tally) ≡ 3) ⌝ }
     ensures best { λ _. ⌜ now (best .exit) ≡ cond (ranksOver bound room (now (marks .entry)) (getD (now (tally .entry)) 0 0) (getD (now (tally .entry)) 1 0) (now (best .entry))) (now (marks .entry)) (now (best .entry)) ⌝ }

@@ -72,7 +72,7 @@ pub fn shares_by_position(file: &[u8]) -> Shares
 }
 
 // The weight of a record's hi arc, or of its lo arc, from the products, the shares of these arcs, and the children that they
-// lead to.
+// lead to. `lay_out` has the arrays of an accepted table.
 pub fn arc_weight(
     products: &[u64; 64],
     shares: &[u64; 64],
