@@ -1,4 +1,4 @@
-/* What the five services answer for table A of document 01, with kits 1 and percent 50. */
+/* What the five services answer for table A of document 01, with kits 1 and percent 50; the filter has percent 60. */
 #include <inttypes.h>
 #include <stdio.h>
 
@@ -38,7 +38,7 @@ int main(void)
 
     uint8_t plan[2];
     uint64_t forced;
-    number = jigbalo_filter(table, size, open, 2, 50, plan, 2, &place, &forced);
+    number = jigbalo_filter(table, size, open, 2, 60, plan, 2, &place, &forced);
     if (answered("filter", number, place))
         printf("filter: forced %" PRIu64 " plan %d %d\n", forced, plan[0], plan[1]);
 

@@ -1,4 +1,4 @@
-//! What the five services answer for table A of document 01, with kits 1 and percent 50.
+//! What the five services answer for table A of document 01, with kits 1 and percent 50; the filter has percent 60.
 mod jigbalo;
 
 /// (line 0 and event 1) or (line 1 and event 3), events 1/2 and 6/10
@@ -23,7 +23,7 @@ fn main() {
         format!("top {top} drops {} {}", drops[0], drops[1])
     });
     let mut plan = [0; 2];
-    show("filter", jigbalo::filter(&table, &open, 50, &mut plan), |n| {
+    show("filter", jigbalo::filter(&table, &open, 60, &mut plan), |n| {
         format!("forced {n} plan {} {}", plan[0], plan[1])
     });
     show("search", jigbalo::search(&table, &open, 1, 50, &mut plan), |f| {

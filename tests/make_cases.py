@@ -329,13 +329,13 @@ for label, records in shapes.items():
 for a in (0, 3, 5):
     t = table([chance(0, a, 5), choice(1)], [record(1, 1, 0), record(0, 2, 0)])
     sweeps(f"sweep, a {a} of 5", t, [0])
-    filters(f"filter, a {a} of 5", t, [0], (0, 59, 60, 99, 100))
+    filters(f"filter, a {a} of 5", t, [0], (0, 1, 59, 60, 61, 99, 100))
 sweeps("sweep, no chance", table([choice(0)], last), [0])
 filters("filter, no chance", table([choice(0)], last), [0], (0, 99, 100))
 for label, records in (("true", last), ("false", [record(0, 0, 0)])):
     t = table([chance(0, 3, 10)], records)
     sweeps(f"sweep, no choice, {label}", t, [])
-    filters(f"filter, no choice, {label}", t, [], (0, 29, 30, 100))
+    filters(f"filter, no choice, {label}", t, [], (0, 29, 30, 31, 100))
 chain = table(big, [record(7, 1, 0)] + [record(7 - k, k + 1, 0) for k in range(1, 7)] + [record(0, 8, 0)])
 for i in (0, 1, 2):
     sweeps(f"sweep, 2^56, {i}", chain, [i])
@@ -392,9 +392,9 @@ note("Search of table A, all kits and percentages, from the fully open plan, and
 searches("search A", A, [0, 0], [(kits, percent) for kits in range(21) for percent in range(101)])
 for i in (0, 1, 2):
     for j in (0, 1, 2):
-        searches(f"search A {i} {j}", A, [i, j], [(kits, percent) for kits in (0, 1, 2, 20) for percent in (0, 49, 50, 59, 60, 79, 80, 100)])
+        searches(f"search A {i} {j}", A, [i, j], [(kits, percent) for kits in (0, 1, 2, 20) for percent in (0, 49, 50, 51, 59, 60, 61, 79, 80, 81, 100)])
 for i in (0, 1, 2):
-    searches(f"search B {i}", B, [i], [(kits, percent) for kits in (0, 1, 20) for percent in (0, 69, 70, 100)])
+    searches(f"search B {i}", B, [i], [(kits, percent) for kits in (0, 1, 20) for percent in (0, 69, 70, 71, 100)])
 
 note("Ties in score, in cost and in both")
 lines3 = [choice(0), choice(1), choice(2), chance(3, 1, 2)]
@@ -402,22 +402,52 @@ any_line = table(lines3, [record(3, 1, 0), record(2, 2, 0), record(1, 2, 3), rec
 two_lines = table(lines3, [record(3, 1, 0), record(2, 2, 0), record(1, 2, 3), record(1, 3, 0), record(0, 4, 5)])
 idle = table(lines3, [record(3, 1, 0)])
 last_line = table(lines3, [record(3, 1, 0), record(2, 2, 0)])
-jobs = [(kits, percent) for kits in (0, 1, 2, 3) for percent in (0, 49, 50, 100)]
+jobs = [(kits, percent) for kits in (0, 1, 2, 3) for percent in (0, 49, 50, 51, 100)]
 for label, t in (("any line", any_line), ("two lines of three", two_lines), ("no line matters", idle), ("the last line alone", last_line)):
     for plan in ([0, 0, 0], [0, 0, 1], [1, 0, 0], [0, 2, 0], [2, 0, 0], [0, 1, 2], [1, 1, 1], [2, 2, 2], [1, 1, 0], [0, 1, 1]):
         searches(f"ties, {label}, {marks_of(plan)}", t, plan, jobs)
 
 note("Search with no choices, and with twenty")
 for label, records in (("true", last), ("false", [record(0, 0, 0)])):
-    searches(f"search, no choice, {label}", table([chance(0, 3, 10)], records), [], [(kits, percent) for kits in (0, 20) for percent in (0, 29, 30, 100)])
+    searches(f"search, no choice, {label}", table([chance(0, 3, 10)], records), [], [(kits, percent) for kits in (0, 20) for percent in (0, 29, 30, 31, 100)])
 twenty = table([choice(i) for i in range(20)] + [chance(20, 1, 2)],
                [record(20, 1, 0)] + [record(19 - k, k + 2, 0) for k in range(20)])
 pairs = table([choice(i) for i in range(20)],
               [record(19 - k, 1, 0) if k % 2 == 0 else record(19 - k, k + 1, 0 if k == 1 else k) for k in range(20)])
-searches("search, twenty in a row", twenty, [0] * 20, [(20, 0), (20, 49), (20, 50), (19, 0), (0, 0)])
-searches("search, twenty, some settled", twenty, [0, 1, 0, 0, 1] * 4, [(20, 0), (20, 50), (19, 0)])
-searches("search, ten pairs", pairs, [0] * 20, [(20, 0), (20, 99), (2, 0), (1, 0)])
-searches("search, ten pairs, some settled", pairs, [0, 1, 2, 0, 0] * 4, [(20, 0), (5, 0), (4, 0), (3, 0)])
+searches("search, twenty in a row", twenty, [0] * 20, [(20, 0), (20, 49), (20, 50), (20, 51), (19, 1), (2, 0), (0, 0)])
+searches("search, twenty, some settled", twenty, [0, 1, 0, 0, 1] * 4, [(20, 0), (20, 50), (20, 51), (19, 0), (19, 1)])
+searches("search, ten pairs", pairs, [0] * 20, [(20, 0), (20, 99), (20, 100), (2, 0), (2, 100), (1, 0), (1, 1)])
+searches("search, ten pairs, some settled", pairs, [0, 1, 2, 0, 0] * 4, [(20, 0), (5, 0), (4, 0), (4, 1), (3, 0)])
+
+
+
+def every_way(label, t, plan, percents):
+    """The filter, the search with no kits and with as many as there are lines, and the program, at the same percentages."""
+    filters(f"at least, filter, {label}", t, plan, percents)
+    searches(f"at least, search, {label}", t, plan, [(kits, percent) for percent in percents for kits in sorted({0, len(plan)})])
+    for percent in percents:
+        runs(f"at least, {label}, {percent}", [word(5, len(plan), 0, percent)] + t)
+
+
+note("100 percent of certain events, by filter, search and program")
+line_and = [choice(0), chance(1, 7, 7), chance(2, 1, 1)]
+every_way("a certain link", table(line_and, [record(2, 1, 0), record(1, 2, 0), record(0, 3, 0)]), [0], (0, 99, 100))
+every_way("a certain link without lines", table([chance(0, 1000, 1000)], last), [], (0, 99, 100))
+every_way("all but certain", table([chance(0, 999, 1000)], last), [], (99, 100))
+sure = [choice(0)] + [chance(1 + i, 128, 128) for i in range(8)]
+every_way("certain, 2^56", table(sure, [record(8 - k, k + 1, 0) for k in range(9)]), [0], (0, 99, 100))
+note("0 percent refuses nothing, also where the top is 0")
+every_way("never", table([choice(0), chance(1, 0, 5)], [record(1, 1, 0), record(0, 2, 0)]), [0], (0, 1, 100))
+every_way("false", table([choice(0)], [record(0, 0, 0)]), [0], (0, 1))
+every_way("false without lines", table([chance(0, 3, 10)], [record(0, 0, 0)]), [], (0, 1))
+note("A score that is the percentage exactly, and shares that no percentage is")
+for a in range(0, 101, 4):
+    hundredths = table([choice(0), chance(1, a, 100)], [record(1, 1, 0), record(0, 2, 0)])
+    every_way(f"{a} of 100", hundredths, [0], [percent for percent in (a - 1, a, a + 1) if 0 <= percent <= 100])
+for a, b in ((1, 3), (2, 3), (1, 7), (6, 7), (1, 1000), (333, 1000), (999, 1000)):
+    every_way(f"{a} of {b}", table([choice(0), chance(1, a, b)], [record(1, 1, 0), record(0, 2, 0)]), [0], (100 * a // b, 100 * a // b + 1))
+half = put(sure, 1, chance(1, 64, 128))
+every_way("half, 2^56", table(half, [record(1, 1, 0), record(0, 2, 0)]), [0], (49, 50, 51))
 
 note("Refusals of the search, after those of the file, with the buffer as it was")
 for label, data in bad:
@@ -455,7 +485,7 @@ runs("11 and 23 and 24", bytes_of([0x5FC007FF]) + b"\0")
 for label, data in bad:
     runs(f"{label} and 23 and 24", bytes_of([0x5FC007FF]) + file_of(data))
 for kits in (0, 1, 2, 20, 21, 63):
-    for percent in (0, 50, 60, 79, 80, 100, 101, 2047):
+    for percent in (0, 50, 51, 60, 61, 79, 80, 81, 100, 101, 2047):
         runs(f"kits {kits}, percent {percent}", [word(5, kits, 0, percent)] + A)
         runs(f"kits {kits}, percent {percent}, B", [word(5, kits, 0, percent)] + B)
 note("The longest inputs")
@@ -467,8 +497,8 @@ runs("1268 bytes", job + large + [0])
 runs("1300 bytes, no job word", bytes(1300))
 runs("1260 bytes, a record missing", (job + large)[:-1])
 note("No choices, twenty choices, the largest scale")
-runs("no choice", [word(5, 0, 0, 29)] + table([chance(0, 3, 10)], last))
-runs("no choice, 32", [word(5, 0, 0, 30)] + table([chance(0, 3, 10)], last))
+runs("no choice", [word(5, 0, 0, 30)] + table([chance(0, 3, 10)], last))
+runs("no choice, 32", [word(5, 0, 0, 31)] + table([chance(0, 3, 10)], last))
 runs("twenty in a row", [word(5, 20, 0, 0)] + twenty)
 runs("ten pairs", [word(5, 2, 0, 0)] + pairs)
 runs("2^56", [word(5, 20, 0, 97)] + chain)

@@ -151,7 +151,7 @@ def completions(plan):
 
 
 def passes(table, percent, x):
-    return 100 * x > percent * table.scale
+    return 100 * x >= percent * table.scale
 
 
 def sweep(table, plan):

@@ -116,7 +116,7 @@ pub fn score_of(words: &[u64; 320], full: u64) -> u64 {
     sum
 }
 
-// Whether a score passes a percent.
+// Whether a score passes a percent: 100 times it is not less than the percent times B.
 pub fn passes(words: &[u64; 320], score: u64, percent: u32) -> bool {
-    mul(percent as u64, scale(words)) < mul(100, score)
+    !(mul(100, score) < mul(percent as u64, scale(words)))
 }

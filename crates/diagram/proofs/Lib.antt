@@ -7,3 +7,4 @@ pub mod Locality
 pub mod Implication
 pub mod FirstVariable
 pub mod Rising
+pub mod LeastPassing

@@ -7,7 +7,7 @@ use native.Mathlib.Omega.{arith}
 use mathlib.Core.Path.{_≡_, refl, ap, sym, _∙_}
 use mathlib.Core.Bool.{Bool, true, false, cond, false≢true}
 use mathlib.Core.List.{List, [], _∷_, tail}
-use borrow.Author.Tests.{ltb-true, lt-ltb, eqb-true}
+use borrow.Author.Tests.{leb-true, le-leb, eqb-true}
 use lib.ListN.{length, getD, set}
 use Rattle.diagram.specs.Table.{Variable, choice, chance, Table, recordAt, root, isChoice, scale}
 use Rattle.diagram.specs.Score.{isTaken, truth, total, scoreFrom, score, every, implies}
@@ -205,4 +205,4 @@ module _ (t : Table) (formed : Formed (length (t .variables)) (t .records)) (mon
 pub larger-passes : (t : Table) (percent : ℕ) {x y : ℕ} → x ≤ y → passes t percent x ≡ true → passes t percent y ≡ true
 unfolding passes
 larger-passes t percent {x} {y} l h =
-    lt-ltb (percent * scale t) (100 * y) (omega (arith, ltb-true (percent * scale t) (100 * x) h))
+    le-leb (percent * scale t) (100 * y) (omega (arith, leb-true (percent * scale t) (100 * x) h))

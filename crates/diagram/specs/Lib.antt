@@ -1,4 +1,4 @@
--- The meaning of the planner, section by section as document 01 has it. Nothing here is about how the program computes.
+-- The meaning of the planner, section by section as document 01 has it, with what document 02 has changed. Nothing here is about how the program computes.
 pub mod Words
 pub mod Table
 pub mod Score

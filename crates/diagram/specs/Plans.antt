@@ -1,10 +1,11 @@
 -- Document 01, "Scores, drops and passing": plans and their completions, the top, the drops, passing and forced lines.
--- A plan is a list of marks, one a choice: 0 open, 1 taken, 2 left.
+-- Passing is as document 02, paper 1, has it. A plan is a list of marks, one a choice: 0 open, 1 taken, 2 left.
 use Prim.Native.Nat.{ℕ, zero, suc, _+_, _-_, _*_}
+use mathlib.Core.Path.{_≡_}
 use mathlib.Core.Bool.{Bool, cond, not, _&&_}
 use mathlib.Core.List.{List, [], _∷_, _++_, map}
 use lib.ListN.{length, getD, set}
-use lib.Dec.{eqb, ltb}
+use lib.Dec.{eqb, leb}
 use Rattle.diagram.specs.Table.{Table, sequence, scale}
 use Rattle.diagram.specs.Score.{score, every}
 
@@ -57,9 +58,13 @@ derivative t p i = cond (isOpen p i) (upperBound t p - score t (openTaken (set p
 unfoldable pub derivatives : Table → List ℕ → List ℕ
 derivatives t p = sequence (derivative t p) 0 (length p)
 
--- "A score passes percent p when 100 times the score is more than p times B"
+-- Whether a score passes percent p: "100 times the score is not less than p times B, in filter, search and visit rule alike"
 unfoldable pub passes : Table → (percent : ℕ) → ℕ → Bool
-passes t percent x = ltb (percent * scale t) (100 * x)
+passes t percent x = leb (percent * scale t) (100 * x)
+
+-- The least score that passes: every score passes exactly when it is not less
+abbrev pub LeastPassing : Table → (percent least : ℕ) → Type 0
+LeastPassing t percent least = (x : ℕ) → passes t percent x ≡ leb least x
 
 -- Whether a test holds of no element of a list
 unfoldable pub noneOf : {A : Type 0} → (A → Bool) → List A → Bool

@@ -1,7 +1,8 @@
--- Document 01, "Tried at the counter": the twelve starred cases, one list with one claim about it.
+-- Document 01, "Tried at the counter": the twelve starred cases, five of which have another answer since paper 1 of document 02, and what else that paper
+-- says of certain events and of the printed job. One claim is about them all.
 use Prim.Native.Nat.{ℕ}
 use mathlib.Core.Path.{_≡_, refl}
-use mathlib.Core.List.{List, [], _∷_, map}
+use mathlib.Core.List.{List, [], _∷_, _++_, map}
 use lib.ListN.{length}
 use Rattle.diagram.specs.Words.{wordAt}
 use Rattle.diagram.specs.Table.{sequence, variableCount, recordCount, variableOf, recordOf, tableOf, recordAt, root, isChoice, choiceCount, scaleOf, scale}
@@ -22,6 +23,20 @@ tableA =
     ∷ 0x30 ∷ 0x40 ∷ 0x08 ∷ 0x02
     ∷ 0x20 ∷ 0x80 ∷ 0x00 ∷ 0x00
     ∷ 0x30 ∷ 0xC0 ∷ 0x30 ∷ 0x0A
+    ∷ 0x40 ∷ 0xC0 ∷ 0x08 ∷ 0x00
+    ∷ 0x40 ∷ 0x80 ∷ 0x10 ∷ 0x00
+    ∷ 0x40 ∷ 0x40 ∷ 0x08 ∷ 0x03
+    ∷ 0x40 ∷ 0x00 ∷ 0x20 ∷ 0x03
+    ∷ []
+
+-- Table A with certain events, 2/2 and 10/10
+unfoldable pub certainA : List ℕ
+certainA =
+    0x11 ∷ 0x00 ∷ 0x20 ∷ 0x00
+    ∷ 0x20 ∷ 0x00 ∷ 0x00 ∷ 0x00
+    ∷ 0x30 ∷ 0x40 ∷ 0x10 ∷ 0x02
+    ∷ 0x20 ∷ 0x80 ∷ 0x00 ∷ 0x00
+    ∷ 0x30 ∷ 0xC0 ∷ 0x50 ∷ 0x0A
     ∷ 0x40 ∷ 0xC0 ∷ 0x08 ∷ 0x00
     ∷ 0x40 ∷ 0x80 ∷ 0x10 ∷ 0x00
     ∷ 0x40 ∷ 0x40 ∷ 0x08 ∷ 0x03
@@ -61,7 +76,7 @@ answerTo (filtered s p percent) = numbers (λ a. a .forced ∷ a .plan) (filterO
 answerTo (searched s p budget percent) = numbers (λ a. a .score ∷ a .plan) (searchOutcome s p budget percent 2)
 answerTo (printed input) = answered (printout input)
 
--- A case: requests, and the answers that document 01 gives
+-- A case: requests, and the answers that the documents give
 pub record Case : Type 0 where
   pub requests : List Request
   pub answers : List (Outcome (List ℕ))
@@ -80,20 +95,23 @@ starred =
     }
     -- A, all open: top 16, drops 4 and 6
     ∷ record { requests = swept tableA allOpen ∷ []; answers = answered (16 ∷ 4 ∷ 6 ∷ []) ∷ [] }
-    -- A, all open, 50: line 1 forced, line 0 stays open
-    ∷ record { requests = filtered tableA allOpen 50 ∷ []; answers = answered (1 ∷ 0 ∷ 1 ∷ []) ∷ [] }
-    -- A, 60: both forced
-    ∷ record { requests = filtered tableA allOpen 60 ∷ []; answers = answered (2 ∷ 1 ∷ 1 ∷ []) ∷ [] }
+    -- A, all open, 50: paper 1, "50 forces nothing"
+    ∷ record { requests = filtered tableA allOpen 50 ∷ []; answers = answered (0 ∷ 0 ∷ 0 ∷ []) ∷ [] }
+    -- A, 60: paper 1, "60 forces line 1 only"
+    ∷ record { requests = filtered tableA allOpen 60 ∷ []; answers = answered (1 ∷ 0 ∷ 1 ∷ []) ∷ [] }
     -- A, 79: both forced
     ∷ record { requests = filtered tableA allOpen 79 ∷ []; answers = answered (2 ∷ 1 ∷ 1 ∷ []) ∷ [] }
-    -- A, 80: 31
-    ∷ record { requests = filtered tableA allOpen 80 ∷ []; answers = refused 31 0 ∷ [] }
+    -- A, 80: paper 1, "80 forces both; 31 first comes at 81"
+    ∷ record {
+      requests = filtered tableA allOpen 80 ∷ filtered tableA allOpen 81 ∷ [];
+      answers = answered (2 ∷ 1 ∷ 1 ∷ []) ∷ refused 31 0 ∷ [];
+    }
     -- A, kits 2, percent 60: both, 16
     ∷ record { requests = searched tableA allOpen 2 60 ∷ []; answers = answered (16 ∷ 1 ∷ 1 ∷ []) ∷ [] }
-    -- A, kits 1, percent 60: 32
-    ∷ record { requests = searched tableA allOpen 1 60 ∷ []; answers = refused 32 0 ∷ [] }
-    -- A, kits 0, percent 0: 32, since 0 is not more than 0
-    ∷ record { requests = searched tableA allOpen 0 0 ∷ []; answers = refused 32 0 ∷ [] }
+    -- A, kits 1, percent 60: paper 1, "kits 1 with 60 gives line 1"
+    ∷ record { requests = searched tableA allOpen 1 60 ∷ []; answers = answered (12 ∷ 2 ∷ 1 ∷ []) ∷ [] }
+    -- A, kits 0, percent 0: paper 1, "the empty plan, score 0", which leaves both lines
+    ∷ record { requests = searched tableA allOpen 0 0 ∷ []; answers = answered (0 ∷ 2 ∷ 2 ∷ []) ∷ [] }
     -- B: 7 taken, 0 left
     ∷ record {
       requests = scored (tableB (0x40 ∷ 0x00 ∷ 0x10 ∷ 0x00 ∷ [])) (1 ∷ []) ∷ scored (tableB (0x40 ∷ 0x00 ∷ 0x10 ∷ 0x00 ∷ [])) (2 ∷ []) ∷ [];
@@ -108,12 +126,33 @@ starred =
     }
     ∷ []
 
--- They are twelve
+-- Paper 1 of document 02
+unfoldable pub paper1 : List Case
+paper1 =
+    -- "100 percent on a link made of certain events": the filter forces nothing, since either line will do, and one kit is enough
+    record {
+      requests = filtered certainA allOpen 100 ∷ searched certainA allOpen 1 100 ∷ [];
+      answers = answered (0 ∷ 0 ∷ 0 ∷ []) ∷ answered (20 ∷ 1 ∷ 2 ∷ []) ∷ [];
+    }
+    -- "The printed job keeps its plan and shows 6 visits": choices 2 scale 20, kits 1 score 12 visits 6, 0 left, 1 take
+    ∷ record {
+      requests = printed (0x50 ∷ 0x40 ∷ 0x00 ∷ 0x32 ∷ tableA) ∷ [];
+      answers = answered (
+          99 ∷ 104 ∷ 111 ∷ 105 ∷ 99 ∷ 101 ∷ 115 ∷ 32 ∷ 50 ∷ 32 ∷ 115 ∷ 99 ∷ 97 ∷ 108 ∷ 101 ∷ 32 ∷ 50 ∷ 48 ∷ 10
+          ∷ 107 ∷ 105 ∷ 116 ∷ 115 ∷ 32 ∷ 49 ∷ 32 ∷ 115 ∷ 99 ∷ 111 ∷ 114 ∷ 101 ∷ 32 ∷ 49 ∷ 50 ∷ 32 ∷ 118 ∷ 105 ∷ 115 ∷ 105 ∷ 116 ∷ 115 ∷ 32 ∷ 54 ∷ 10
+          ∷ 48 ∷ 32 ∷ 108 ∷ 101 ∷ 102 ∷ 116 ∷ 10
+          ∷ 49 ∷ 32 ∷ 116 ∷ 97 ∷ 107 ∷ 101 ∷ 10
+          ∷ []
+          ) ∷ [];
+    }
+    ∷ []
+
+-- The starred cases are twelve
 pub twelve : length starred ≡ 12
 unfolding starred
 twelve = refl
 
--- Each request has the answer that document 01 gives
-pub starredHold : map (λ c. map answerTo (c .requests)) starred ≡ map (λ c. c .answers) starred
-unfolding starred answerTo tableA tableB allOpen numbers wordAt sequence variableCount recordCount variableOf recordOf tableOf recordAt root isChoice choiceCount scaleOf scale walk truth settlings weight sum total scoreFrom score assignments every implies completions openTaken openCount takenCount cost isOpen leaves upperBound derivative derivatives passes noneOf passing forced forcedPlan countOf forcedCount takesFirst ranksBefore better firstRanked isCandidate select bestPlan beaten goesBack lowestOpen visit visited visitCount placeZero firstPlace jobFault lengthFault isHeading headingFault countFault isVariableWord variableFault choiceFault scaleFault positionOf isChild isRecordWord recordFault isMonotoneAt monotoneFault planLengthFault planMarkFault fullPlanFault percentFault budgetFault bufferFault jobChecks tableChecks scoreChecks sweepChecks filterChecks searchChecks checked written reading readOutcome scoreOutcome sweepOutcome sweepBuffer filtering filterOutcome filterBuffer searching searchOutcome searchBuffer digits decimal refusedWord choicesWord scaleWord kitsWord scoreWord visitsWord takeWord leftWord line markLines refusalText planText searchText jobOutcome programOutcome printout
+-- Each request has the answer that document 01 gives, or paper 1 of document 02
+pub starredHold : map (λ c. map answerTo (c .requests)) (starred ++ paper1) ≡ map (λ c. c .answers) (starred ++ paper1)
+unfolding starred paper1 answerTo tableA certainA tableB allOpen numbers wordAt sequence variableCount recordCount variableOf recordOf tableOf recordAt root isChoice choiceCount scaleOf scale walk truth settlings weight sum total scoreFrom score assignments every implies completions openTaken openCount takenCount cost isOpen leaves upperBound derivative derivatives passes noneOf passing forced forcedPlan countOf forcedCount takesFirst ranksBefore better firstRanked isCandidate select bestPlan beaten goesBack lowestOpen visit visited visitCount placeZero firstPlace jobFault lengthFault isHeading headingFault countFault isVariableWord variableFault choiceFault scaleFault positionOf isChild isRecordWord recordFault isMonotoneAt monotoneFault planLengthFault planMarkFault fullPlanFault percentFault budgetFault bufferFault jobChecks tableChecks scoreChecks sweepChecks filterChecks searchChecks checked written reading readOutcome scoreOutcome sweepOutcome sweepBuffer filtering filterOutcome filterBuffer searching searchOutcome searchBuffer digits decimal refusedWord choicesWord scaleWord kitsWord scoreWord visitsWord takeWord leftWord line markLines refusalText planText searchText jobOutcome programOutcome printout
 starredHold = refl

@@ -1,5 +1,6 @@
-// The words of a table file, the three numberings of a diagram, plans and refusals. What they mean is in specs/.
+// The words of a table file, the three numberings of a diagram, plans, which scores pass, and refusals. The meaning is in specs/.
 mod numbering;
+mod passing;
 mod plan;
 mod refusal;
 mod word;
@@ -7,6 +8,8 @@ mod word;
 pub use numbering::Choice;
 pub use numbering::Node;
 pub use numbering::Position;
+pub use passing::least_passing;
+pub use passing::passes;
 pub use plan::Plan;
 pub use refusal::Refusal;
 pub use word::field_p;

@@ -2,11 +2,12 @@
 // none is held, and the visits. A plan's room is the kits that it leaves and one more, and 0 where it costs more than the budget.
 // The marks of the best plan held stand beside them.
 use diagram::Plan;
+use diagram::passes;
 ghost use mathlib.Core.Path.{_≡_};
-ghost use mathlib.Core.Bool.{cond, _||_};
+ghost use mathlib.Core.Bool.{cond, not, _||_};
 ghost use Prim.Native.Nat.{_+_, _<_, _^_};
 ghost use lib.ListN.{length, getD, set};
-ghost use lib.Dec.{eqb, ltb};
+ghost use lib.Dec.{eqb, leb};
 ghost use Rattle.diagram.specs.Ranking.{takesFirst};
 ghost use Rattle.incumbent.specs.Ranks.{ranksOver};
 
@@ -21,7 +22,7 @@ pub fn count(tally: &mut [u64; 3])
 
 // Whether a visit goes back: the plan costs more than the budget, or its bound is less than any that is worth a visit.
 pub fn goes_back(tally: &[u64; 3], room: u64, bound: u64) -> bool
-    ensures { λ r. ⌜ r ≡ (eqb room 0 || ltb bound (getD (now (tally .entry)) 0 0)) ⌝ }
+    ensures { λ r. ⌜ r ≡ (eqb room 0 || not (leb (getD (now (tally .entry)) 0 0) bound)) ⌝ }
 {
     if room == 0 {
         return true;
@@ -31,9 +32,9 @@ pub fn goes_back(tally: &[u64; 3], room: u64, bound: u64) -> bool
 
 // Whether a bound is less than any that is worth a visit: it does not pass, or it is less than the score of the plan held.
 pub fn is_beaten(tally: &[u64; 3], bound: u64) -> bool
-    ensures { λ r. ⌜ r ≡ ltb bound (getD (now (tally .entry)) 0 0) ⌝ }
+    ensures { λ r. ⌜ r ≡ not (leb (getD (now (tally .entry)) 0 0) bound) ⌝ }
 {
-    bound < tally[0]
+    !passes(tally[0], bound)
 }
 
 // The finished plan becomes the best held if it ranks before it, as it does where none is held. The lengths are the arrays' own;

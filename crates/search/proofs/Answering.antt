@@ -1,7 +1,6 @@
 -- What `search` answers and what it leaves in its buffer, from what the checks and the visits leave.
 -- Assumes of a request that the checks let through that what is held and counted is the visit rule's (`explore`).
-use Prim.Native.Nat.{ℕ, suc, _+_, _-_, _*_, _≤_, _^_}
-use native.Mathlib.Nat.{mul-le-mul-right}
+use Prim.Native.Nat.{ℕ, suc, _+_, _-_, _≤_, _^_}
 use native.Mathlib.Omega.{arith}
 use mathlib.Core.Path.{_≡_, refl, sym, _∙_}
 use mathlib.Core.List.{List}
@@ -9,29 +8,20 @@ use mathlib.Core.Option.{Option, none, some}
 use lib.ListN.{length, getD, take, replicate, length-append, length-replicate}
 use lib.Pow.{pow-pos}
 use lib.Seq.{take-append-seam}
-use borrow.Author.Tests.{ltb-false, le-ltb}
-use Rattle.diagram.specs.Table.{Table, tableOf, scale}
-use Rattle.diagram.specs.Plans.{openCount, passes}
+use Rattle.diagram.specs.Table.{tableOf}
+use Rattle.diagram.specs.Plans.{openCount}
 use Rattle.diagram.specs.Ranking.{bestPlan}
 use Rattle.diagram.specs.Visits as visits
 use Rattle.diagram.specs.Services.{refused, answered, written, Reading, searching, searchOutcome, searchBuffer}
 use Rattle.diagram.specs.declared.refusal.Refusal.{Refusal}
 use Rattle.reading.proofs.Accepted.{passed-choices, passed-formed, passed-monotone}
 use Rattle.rule.proofs.Visiting.{visited-first, visits-bounded}
-use Rattle.sweep.specs.Drops.{LargestFailing}
 use Rattle.sweep.specs.Request.{requestOutcome}
 use Rattle.sweep.proofs.Requesting.{Proper, proper, search-refused, search-answered}
 use Rattle.search.specs.declared.answer.SearchAnswer.{SearchAnswer}
 use Rattle.search.specs.declared.answer.SearchAnswer.the-variants.{Found, Refused}
 use Rattle.search.specs.Answer.{searchOf, visitsOf}
 use Rattle.search.specs.State.{Explored}
-
--- the largest score that fails a percentage is at most B
-pub failing-fits : (t : Table) (percent failing : ℕ) → LargestFailing t percent failing → percent ≤ 100 → scale t ≤ 2 ^ 56 → failing ≤ 2 ^ 56
-unfolding passes
-failing-fits t percent failing passing h l =
-    let less = ltb-false (percent * scale t) (100 * failing) (passing failing ∙ le-ltb failing failing (omega arith)) in
-    omega (arith, less, mul-le-mul-right (scale t) h)
 
 module _ (s p held : List ℕ) (budget percent : ℕ) where
   -- What `search` promises of its answer and of its buffer
@@ -50,7 +40,7 @@ module _ (s p held : List ℕ) (budget percent : ℕ) where
   pub search-turned : (x : Refusal) → requestOutcome s p budget percent (length held) ≡ refused (x .number) (x .place) → Promised (Refused x) held
   search-turned x e = refuses x (search-refused s p (length held) percent budget (x .number) (x .place) e)
 
-  module _ (r : Reading) (e : requestOutcome s p budget percent (length held) ≡ answered r) {failing : ℕ} {best tally : List ℕ} (explored : Explored (tableOf s) percent budget failing p best tally) where
+  module _ (r : Reading) (e : requestOutcome s p budget percent (length held) ≡ answered r) {least : ℕ} {best tally : List ℕ} (explored : Explored (tableOf s) percent budget least p best tally) where
     -- what the checks have found
     is-proper : Proper s p budget percent (length held)
     is-proper = proper s p budget percent (length held) r e

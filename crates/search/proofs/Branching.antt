@@ -87,7 +87,7 @@ marked g d m held =
       order = g .order;
       percent = g .percent;
       budget = g .budget;
-      failing = g .failing;
+      least = g .least;
       plan = set (g .plan) d m;
       held = held;
     }

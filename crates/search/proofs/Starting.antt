@@ -14,7 +14,7 @@ use lib.ListN.{length, getD, set, take, drop, replicate, length-set, length-appe
 use lib.Pow.{pow-mono}
 use lib.Seq.{getD-set-same, getD-set-other, take-length, take-append-seam, getD-drop, getD-take, length-take-le, drop-cons}
 use Rattle.diagram.specs.Table.{Variable, choice, chance, Table, sequence, tableOf, isChoice, choiceCount}
-use Rattle.diagram.specs.Plans.{openCount, cost}
+use Rattle.diagram.specs.Plans.{openCount, cost, LeastPassing}
 use Rattle.diagram.specs.Visits as visits
 use Rattle.diagram.specs.declared.plan.Plan.{Plan}
 use Rattle.diagram.proofs.Places.{sequence-at}
@@ -27,7 +27,7 @@ use Rattle.scoring.proofs.Bounding.{marked}
 use Rattle.scoring.proofs.FullPlans.{Legal}
 use Rattle.scoring.proofs.Over.{over-sequence-at}
 use Rattle.scoring.proofs.Passing.{choices-before}
-use Rattle.sweep.specs.Drops.{Chosen, LargestFailing}
+use Rattle.sweep.specs.Drops.{Chosen}
 use Rattle.sweep.proofs.Leaving.{choices-later}
 use Rattle.layers.specs.Chains.{pick, joined, placed}
 use Rattle.layers.specs.Layers.{Layers}
@@ -281,22 +281,22 @@ handed-in p start few marks count =
     )
 
 -- What is visited first
-abbrev pub firstScene : (s p order : List ℕ) → (percent budget failing : ℕ) → Scene
-firstScene s p order percent budget failing =
+abbrev pub firstScene : (s p order : List ℕ) → (percent budget least : ℕ) → Scene
+firstScene s p order percent budget least =
     record {
       table = tableOf s;
       start = p;
       order = order;
       percent = percent;
       budget = budget;
-      failing = failing;
+      least = least;
       plan = p;
       held = none;
     }
 
 -- the numbers that stand for nothing held and no visits
-pub nothing-held : (t : Table) (budget failing : ℕ) (best W : List ℕ) {x y z : ℕ} {tally : List ℕ} → length W ≡ 3 → x ≡ failing + 1 → y ≡ 0 → z ≡ 0 → tally ≡ set (set (set W 0 x) 1 y) 2 z → Holds t budget failing none best tally × (length tally ≡ 3) × (getD tally 2 0 ≡ 0)
-nothing-held t budget failing best W {x} {y} {z} three ex ey ez e =
+pub nothing-held : (t : Table) (budget least : ℕ) (best W : List ℕ) {x y z : ℕ} {tally : List ℕ} → length W ≡ 3 → x ≡ least → y ≡ 0 → z ≡ 0 → tally ≡ set (set (set W 0 x) 1 y) 2 z → Holds t budget least none best tally × (length tally ≡ 3) × (getD tally 2 0 ≡ 0)
+nothing-held t budget least best W {x} {y} {z} three ex ey ez e =
     let one : length (set W 0 x) ≡ 3 = simp length-set three in
     let two : length (set (set W 0 x) 1 y) ≡ 3 = simp length-set three in
     let at0 : getD (set (set (set W 0 x) 1 y) 2 z) 0 0 ≡ x = getD-set-other (set (set W 0 x) 1 y) 2 0 z 0 (omega arith) ∙ getD-set-other (set W 0 x) 1 0 y 0 (omega arith) ∙ getD-set-same W 0 x 0 (omega arith) in
@@ -333,7 +333,7 @@ module _ {s p : List ℕ} (passed : Passed s) (long : length p ≡ choiceCount (
       numbers-few (tableOf s) p long count numbers places lists room (ready .chosen) (passed-choices passed) (omega (arith, passed-variables passed))
 
   -- all that the first visit is handed
-  pub first-visitable : {percent budget failing weight bound kits : ℕ} {ends order losses lines cells marks best tally : List ℕ} {l : Layers} → Arranged (tableOf s) p weight bound ends order l losses → Ranked count numbers places ends lines → getD cells 1 0 ≡ weight → marks ≡ start .marks → kits ≡ budget + 1 - cost (rows start) → LargestFailing (tableOf s) percent failing → Holds (tableOf s) budget failing none best tally → Visitable (firstScene s p order percent budget failing) l losses lines cells marks best tally count kits bound
+  pub first-visitable : {percent budget least weight bound kits : ℕ} {ends order losses lines cells marks best tally : List ℕ} {l : Layers} → Arranged (tableOf s) p weight bound ends order l losses → Ranked count numbers places ends lines → getD cells 1 0 ≡ weight → marks ≡ start .marks → kits ≡ budget + 1 - cost (rows start) → LeastPassing (tableOf s) percent least → Holds (tableOf s) budget least none best tally → Visitable (firstScene s p order percent budget least) l losses lines cells marks best tally count kits bound
   first-visitable arranged ranked heavy same left passing holds =
       let from = ranked .first in
       record {
@@ -361,9 +361,9 @@ module _ {s p : List ℕ} (passed : Passed s) (long : length p ≡ choiceCount (
   first-room e = omega (arith, e, pow-mono {i = suc count} {j = 21} (omega (arith, ready .listed .0)))
 
 -- what the first visit leaves is what document 01's search does
-pub first-explored : {s p : List ℕ} → Passed s → {percent budget failing from counted : ℕ} {order cells marks cells′ marks′ best tally : List ℕ} → counted ≡ 0 → Visited (firstScene s p order percent budget failing) from counted cells marks cells′ marks′ best tally → Explored (tableOf s) percent budget failing p best tally
-first-explored {s} {p} passed {percent} {budget} {failing} {from} {counted} {order} e v =
-    let done : ruled (firstScene s p order percent budget failing) counted ≡ visits.visited (tableOf s) budget percent p = rw e (sym (visited-rule (tableOf s) (passed-formed passed) (passed-monotone passed) budget percent p)) in
+pub first-explored : {s p : List ℕ} → Passed s → {percent budget least from counted : ℕ} {order cells marks cells′ marks′ best tally : List ℕ} → counted ≡ 0 → Visited (firstScene s p order percent budget least) from counted cells marks cells′ marks′ best tally → Explored (tableOf s) percent budget least p best tally
+first-explored {s} {p} passed {percent} {budget} {least} {from} {counted} {order} e v =
+    let done : ruled (firstScene s p order percent budget least) counted ≡ visits.visited (tableOf s) budget percent p = rw e (sym (visited-rule (tableOf s) (passed-formed passed) (passed-monotone passed) budget percent p)) in
     record { holds = rw done at (v .holds); counts = v .counts ∙ ap (λ (w : visits.Tally). w .visits) done }
 
 -- ---------------------------------------------------------------------------

@@ -1,23 +1,22 @@
 -- What is held in the terms of the visit rule: its tests, the ranking of two plans, and the plan that is held after a finished plan.
--- Assumes that the numbers held are those of the best plan held (`Holds`), and that `failing` is the largest score that fails.
+-- Assumes that the numbers held are those of the best plan held (`Holds`), and that `least` is the least score that passes.
 use Prim.Native.Nat.{ℕ, _+_, _-_, _≤_, _<_}
 use native.Mathlib.Nat.{eq-or-lt-of-le}
 use native.Mathlib.Omega.{arith}
 use mathlib.Core.Path.{_≡_, refl, ap, sym, _∙_}
 use mathlib.Core.Logic.{⊎-elim}
-use mathlib.Core.Bool.{Bool, true, false, cond, not, _&&_, _||_, or-false}
+use mathlib.Core.Bool.{Bool, true, false, cond, not, _&&_, _||_, or-true, or-false}
 use mathlib.Core.List.{List, [], _∷_, _++_}
 use mathlib.Core.Option.{Option, none, some, Option·some-injective, Option·some-ne-none}
 use lib.ListN.{length, getD, set, length-set}
-use lib.Dec.{eqb, ltb}
+use lib.Dec.{eqb, leb, ltb}
 use lib.Seq.{getD-set-same, getD-set-other}
-use borrow.Author.Tests.{lt-ltb, le-ltb, eq-eqb, ltb-true, ltb-false, eqb-true, eqb-false, not-true}
+use borrow.Author.Tests.{lt-ltb, le-ltb, le-leb, eq-eqb, ltb-true, leb-true, leb-false, eqb-true, eqb-false, not-false}
 use Rattle.diagram.specs.Table.{Table, choiceCount}
 use Rattle.diagram.specs.Score.{score}
-use Rattle.diagram.specs.Plans.{openCount, cost, upperBound}
+use Rattle.diagram.specs.Plans.{openCount, cost, upperBound, LeastPassing}
 use Rattle.diagram.specs.Ranking.{takesFirst, ranksBefore, better}
 use Rattle.diagram.proofs.Every.{neither, both-ways}
-use Rattle.sweep.specs.Drops.{LargestFailing}
 use Rattle.rule.specs.Rule.{terms, beaten, goesBack, worthwhile}
 use Rattle.rule.proofs.Instance.{full-taken}
 use Rattle.incumbent.specs.Ranks.{ranksOver}
@@ -48,20 +47,15 @@ same-room budget c d h k =
     (λ e. eq-eqb c d (omega (arith, eqb-true (budget + 1 - c) (budget + 1 - d) e)))
     (λ e. eq-eqb (budget + 1 - c) (budget + 1 - d) (omega (arith, eqb-true c d e)))
 
--- a number that is not more than another is less than the next
-not-more : (x y : ℕ) → not (ltb x y) ≡ ltb y (x + 1)
-not-more x y =
-    both-ways _ _
-    (λ e. lt-ltb y (x + 1) (omega (arith, ltb-false x y (not-true (ltb x y) e))))
-    (λ e. rw (le-ltb x y (omega (arith, ltb-true y (x + 1) e))) refl)
-
--- a number that is not more than a smaller one is less than a larger one
-less-too : (x y z : ℕ) → x < z → (not (ltb x y) || ltb y z) ≡ ltb y z
-less-too x y z h = go (ltb x y) refl
+-- a number is less than one of two exactly when it does not reach the larger
+less-too : (x y z : ℕ) → x ≤ z → (not (leb x y) || ltb y z) ≡ not (leb z y)
+less-too x y z h = go (leb z y) refl
   where
-    go : (b : Bool) → ltb x y ≡ b → (not b || ltb y z) ≡ ltb y z
-    go true e = refl
-    go false e = sym (lt-ltb y z (omega (arith, ltb-false x y e)))
+    go : (b : Bool) → leb z y ≡ b → (not (leb x y) || ltb y z) ≡ not b
+    go true e =
+        let l = leb-true z y e in
+        rw (le-leb x y (omega arith), le-ltb y z l) refl
+    go false e = rw (lt-ltb y z (leb-false z y e)) (or-true (not (leb x y)))
 
 -- the last two of three tests are one
 joint : (a b c : Bool) {d : Bool} → (b || c) ≡ d → (a || b || c) ≡ (a || d)
@@ -106,55 +100,55 @@ first-padded p q e = rw e (first-append p q _ e)
 -- ---------------------------------------------------------------------------
 -- The tests of a visit
 
-module _ {t : Table} {budget failing : ℕ} {held : Option (List ℕ)} {best tally : List ℕ} (holds : Holds t budget failing held best tally) (percent : ℕ) (passing : LargestFailing t percent failing) where
+module _ {t : Table} {budget least : ℕ} {held : Option (List ℕ)} {best tally : List ℕ} (holds : Holds t budget least held best tally) (percent : ℕ) (passing : LeastPassing t percent least) where
   -- a bound does not pass or is beaten where it is less than the least that is worth a visit
-  least-is : (x : ℕ) → (not (ltb failing x) || beaten (terms t budget percent) held x) ≡ ltb x (getD tally 0 0)
+  least-is : (x : ℕ) → (not (leb least x) || beaten (terms t budget percent) held x) ≡ not (leb (getD tally 0 0) x)
   unfolding terms beaten
   least-is x = go held refl
     where
-      go : (h : Option (List ℕ)) → held ≡ h → (not (ltb failing x) || beaten (terms t budget percent) h x) ≡ ltb x (getD tally 0 0)
-      go none e = rw (holds .nothing e .0, or-false) (not-more failing x)
+      go : (h : Option (List ℕ)) → held ≡ h → (not (leb least x) || beaten (terms t budget percent) h x) ≡ not (leb (getD tally 0 0) x)
+      go none e = rw (holds .nothing e .0, or-false) refl
       go (some q) e =
           let q-held = holds .something q e in
-          rw (q-held .scored) (less-too failing x (score t q) (q-held .passes))
+          rw (q-held .scored) (less-too least x (score t q) (q-held .passes))
 
   -- a visit goes back
-  pub back-is : (p : List ℕ) {room bound : ℕ} {r : Bool} → room ≡ budget + 1 - cost p → bound ≡ upperBound t p → r ≡ (eqb room 0 || ltb bound (getD tally 0 0)) → goesBack (terms t budget percent) p held ≡ r
+  pub back-is : (p : List ℕ) {room bound : ℕ} {r : Bool} → room ≡ budget + 1 - cost p → bound ≡ upperBound t p → r ≡ (eqb room 0 || not (leb (getD tally 0 0) bound)) → goesBack (terms t budget percent) p held ≡ r
   unfolding terms goesBack
   back-is p er eb e =
       rw (e, er, eb, no-room budget (cost p), passing (upperBound t p))
       (joint (ltb budget (cost p)) _ _ (least-is (upperBound t p)))
 
   -- a plan with a line left is visited
-  pub worth-is : (p : List ℕ) {x : ℕ} {r : Bool} → x ≡ upperBound t p → r ≡ ltb x (getD tally 0 0) → worthwhile (terms t budget percent) p held ≡ not r
+  pub worth-is : (p : List ℕ) {x : ℕ} {r : Bool} → x ≡ upperBound t p → r ≡ not (leb (getD tally 0 0) x) → worthwhile (terms t budget percent) p held ≡ not r
   unfolding terms worthwhile
   worth-is p ex e =
-      rw (e, ex, passing (upperBound t p), ← least-is (upperBound t p)) (none-holds (ltb failing (upperBound t p)) _)
+      rw (e, ex, passing (upperBound t p), ← least-is (upperBound t p)) (none-holds (leb least (upperBound t p)) _)
 
 -- ---------------------------------------------------------------------------
 -- What is held
 
 -- a plan is held where its numbers are
-one-held : {t : Table} {budget failing : ℕ} {p best tally : List ℕ} → Holding t budget failing p best tally → Holds t budget failing (some p) best tally
-one-held {t} {budget} {failing} {p} {best} {tally} h =
+one-held : {t : Table} {budget least : ℕ} {p best tally : List ℕ} → Holding t budget least p best tally → Holds t budget least (some p) best tally
+one-held {t} {budget} {least} {p} {best} {tally} h =
     record {
       nothing = λ e. absurd (Option·some-ne-none p e);
       something = λ q e. rw (← Option·some-injective p q e) h;
     }
 
 -- a visit more changes nothing of what is held
-pub counted-holds : {t : Table} {budget failing : ℕ} {held : Option (List ℕ)} {best tally tally′ : List ℕ} → Holds t budget failing held best tally → length tally ≡ 3 → tally′ ≡ set tally 2 (getD tally 2 0 + 1) → Holds t budget failing held best tally′
-counted-holds {t} {budget} {failing} {held} {best} {tally} {tally′} holds size e =
-    let least : getD tally′ 0 0 ≡ getD tally 0 0 = rw e (getD-set-other tally 2 0 _ 0 (omega arith)) in
+pub counted-holds : {t : Table} {budget least : ℕ} {held : Option (List ℕ)} {best tally tally′ : List ℕ} → Holds t budget least held best tally → length tally ≡ 3 → tally′ ≡ set tally 2 (getD tally 2 0 + 1) → Holds t budget least held best tally′
+counted-holds {t} {budget} {least} {held} {best} {tally} {tally′} holds size e =
+    let worth : getD tally′ 0 0 ≡ getD tally 0 0 = rw e (getD-set-other tally 2 0 _ 0 (omega arith)) in
     let room : getD tally′ 1 0 ≡ getD tally 1 0 = rw e (getD-set-other tally 2 1 _ 0 (omega arith)) in
     record {
-      nothing = λ n. (least ∙ holds .nothing n .0, room ∙ holds .nothing n .1);
+      nothing = λ n. (worth ∙ holds .nothing n .0, room ∙ holds .nothing n .1);
       something = λ q s.
           let h = holds .something q s in
           record {
             size = h .size;
             plan = h .plan;
-            scored = least ∙ h .scored;
+            scored = worth ∙ h .scored;
             room = room ∙ h .room;
             within = h .within;
             passes = h .passes;
@@ -162,8 +156,8 @@ counted-holds {t} {budget} {failing} {held} {best} {tally} {tally′} holds size
     }
 
 -- A finished plan
-module _ {t : Table} {budget failing : ℕ} {held : Option (List ℕ)} {best tally : List ℕ} (holds : Holds t budget failing held best tally) (size : length tally ≡ 3) (p : List ℕ) (room bound : ℕ) (marks : List ℕ) {best′ tally′ : List ℕ} (eb : best′ ≡ cond (ranksOver bound room marks (getD tally 0 0) (getD tally 1 0) best) marks best) (et : tally′ ≡ cond (ranksOver bound room marks (getD tally 0 0) (getD tally 1 0) best) (set (set tally 0 bound) 1 room) tally) where
-  module _ (long : length p ≡ choiceCount (t .variables)) (few : choiceCount (t .variables) ≤ 20) (full : openCount p ≡ 0) (em : marks ≡ padded p) (er : room ≡ budget + 1 - cost p) (ex : bound ≡ upperBound t p) (stays : (eqb room 0 || ltb bound (getD tally 0 0)) ≡ false) where
+module _ {t : Table} {budget least : ℕ} {held : Option (List ℕ)} {best tally : List ℕ} (holds : Holds t budget least held best tally) (size : length tally ≡ 3) (p : List ℕ) (room bound : ℕ) (marks : List ℕ) {best′ tally′ : List ℕ} (eb : best′ ≡ cond (ranksOver bound room marks (getD tally 0 0) (getD tally 1 0) best) marks best) (et : tally′ ≡ cond (ranksOver bound room marks (getD tally 0 0) (getD tally 1 0) best) (set (set tally 0 bound) 1 room) tally) where
+  module _ (long : length p ≡ choiceCount (t .variables)) (few : choiceCount (t .variables) ≤ 20) (full : openCount p ≡ 0) (em : marks ≡ padded p) (er : room ≡ budget + 1 - cost p) (ex : bound ≡ upperBound t p) (stays : (eqb room 0 || not (leb (getD tally 0 0) bound)) ≡ false) where
     -- its bound is its score
     bound-score : bound ≡ score t p
     unfolding upperBound
@@ -175,10 +169,10 @@ module _ {t : Table} {budget failing : ℕ} {held : Option (List ℕ)} {best tal
 
     -- its bound is worth a visit
     worth-visit : getD tally 0 0 ≤ bound
-    worth-visit = ltb-false bound (getD tally 0 0) (neither (eqb room 0) stays .1)
+    worth-visit = leb-true (getD tally 0 0) bound (not-false _ (neither (eqb room 0) stays .1))
 
     -- where it ranks first it is held
-    new-held : ranksOver bound room marks (getD tally 0 0) (getD tally 1 0) best ≡ true → failing < score t p → Holds t budget failing (some p) best′ tally′
+    new-held : ranksOver bound room marks (getD tally 0 0) (getD tally 1 0) best ≡ true → least ≤ score t p → Holds t budget least (some p) best′ tally′
     new-held e h =
         rw (eb, et, e)
         (one-held
@@ -192,7 +186,7 @@ module _ {t : Table} {budget failing : ℕ} {held : Option (List ℕ)} {best tal
         }))
 
     -- where it does not, what was held is held on
-    old-held : ranksOver bound room marks (getD tally 0 0) (getD tally 1 0) best ≡ false → Holds t budget failing held best′ tally′
+    old-held : ranksOver bound room marks (getD tally 0 0) (getD tally 1 0) best ≡ false → Holds t budget least held best′ tally′
     old-held e = rw (eb, et, e) holds
 
     -- where nothing is held it ranks first
@@ -209,15 +203,15 @@ module _ {t : Table} {budget failing : ℕ} {held : Option (List ℕ)} {best tal
         rw (bound-score, er, em, h .scored, h .room, h .plan, more-room budget (cost p) (cost q) within-budget (h .within), same-room budget (cost p) (cost q) within-budget (h .within), first-padded p q (long ∙ sym (h .size))) refl
 
     -- what is held then is the better of the two
-    pub kept-holds : Holds t budget failing (better t held p) best′ tally′
+    pub kept-holds : Holds t budget least (better t held p) best′ tally′
     unfolding better
     kept-holds = go held refl
       where
-        go : (h : Option (List ℕ)) → held ≡ h → Holds t budget failing (better t h p) best′ tally′
+        go : (h : Option (List ℕ)) → held ≡ h → Holds t budget least (better t h p) best′ tally′
         go none e = new-held (first-ranks e) (omega (arith, worth-visit, bound-score, holds .nothing e .0))
         go (some q) e = beside (ranksBefore t p q) refl
           where
-            beside : (r : Bool) → ranksBefore t p q ≡ r → Holds t budget failing (some (cond r p q)) best′ tally′
+            beside : (r : Bool) → ranksBefore t p q ≡ r → Holds t budget least (some (cond r p q)) best′ tally′
             beside true f = new-held (ranks-is q e ∙ f) (omega (arith, worth-visit, bound-score, holds .something q e .scored, holds .something q e .passes))
             beside false f = rw (← e) (old-held (ranks-is q e ∙ f))
 

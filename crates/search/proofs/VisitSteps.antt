@@ -9,7 +9,7 @@ use mathlib.Core.Bool.{Bool, true, false, cond, not, _||_}
 use mathlib.Core.List.{List}
 use lib.ListN.{length, getD, set, length-set}
 use lib.Seq.{getD-set-same, set-set}
-use lib.Dec.{eqb, ltb}
+use lib.Dec.{eqb, leb}
 use lib.Pow.{pow-pos}
 use borrow.Author.Tests.{eqb-false}
 use Rattle.diagram.specs.Plans.{openCount, upperBound}
@@ -70,7 +70,7 @@ either-long false y z hy hz = hz
 
 module _ {g : Scene} {l : Layers} {losses lines cells marks best tally : List ℕ} {n room bound : ℕ} (given : Visitable g l losses lines cells marks best tally n room bound) (sizes : Sizes cells marks best tally) {tally₁ : List ℕ} (now : tally₁ ≡ set tally 2 (getD tally 2 0 + 1)) where
   -- the visit is counted, and nothing else is held
-  counted : Holds (g .table) (g .budget) (g .failing) (g .held) best tally₁
+  counted : Holds (g .table) (g .budget) (g .least) (g .held) best tally₁
   counted = counted-holds (given .holds) (sizes .3) now
 
   counted-visits : getD tally₁ 2 0 ≡ suc (getD tally 2 0)
@@ -87,7 +87,7 @@ module _ {g : Scene} {l : Layers} {losses lines cells marks best tally : List �
   abbrev found : visits.Tally
   found = record { held = g .held; visits = getD tally 2 0 }
 
-  module _ {r : Bool} (test : r ≡ (eqb room 0 || ltb bound (getD tally₁ 0 0))) where
+  module _ {r : Bool} (test : r ≡ (eqb room 0 || not (leb (getD tally₁ 0 0) bound))) where
     -- the first test is the rule's
     back-test : goesBack (parts g) (g .plan) (g .held) ≡ r
     back-test =
@@ -232,7 +232,7 @@ module _ {g : Scene} {l : Layers} {losses lines cells marks best tally : List �
           left-bound : left ≡ upperBound (g .table) (set (g .plan) d 2)
           left-bound = less ∙ rw (← loss) at (branching.lost-bound (given .ground) (given .stands) more (sizes .0) .1)
 
-          module _ {r : Bool} (test : r ≡ (eqb room 0 || ltb bound (getD tally₁ 0 0))) (stays : r ≡ false) {b : Bool} (worth : b ≡ ltb left (getD tally₂ 0 0)) where
+          module _ {r : Bool} (test : r ≡ (eqb room 0 || not (leb (getD tally₁ 0 0) bound))) (stays : r ≡ false) {b : Bool} (worth : b ≡ not (leb (getD tally₂ 0 0) left)) where
             -- the second test is the rule's
             worth-test : worthwhile (parts g) (set (g .plan) (lowestOpen (g .plan)) 2) (after .held) ≡ not b
             worth-test =
@@ -297,7 +297,7 @@ module _ {g : Scene} {l : Layers} {losses lines cells marks best tally : List �
                   refl
 
               -- a visit that ends after both
-              pub visit-both : {r : Bool} → r ≡ (eqb room 0 || ltb bound (getD tally₁ 0 0)) → r ≡ false → {b : Bool} → b ≡ ltb left (getD tally₂ 0 0) → b ≡ false → {marks₅ : List ℕ} → marks₅ ≡ set marks₄ d 0 → Visited g from (getD tally 2 0) cells marks cells₄ marks₅ best₄ tally₄
+              pub visit-both : {r : Bool} → r ≡ (eqb room 0 || not (leb (getD tally₁ 0 0) bound)) → r ≡ false → {b : Bool} → b ≡ not (leb (getD tally₂ 0 0) left) → b ≡ false → {marks₅ : List ℕ} → marks₅ ≡ set marks₄ d 0 → Visited g from (getD tally 2 0) cells marks cells₄ marks₅ best₄ tally₄
               visit-both test stays worth two back =
                   let rules : ruled g (getD tally 2 0) ≡ rule (n - 1) (parts g) (set (g .plan) (lowestOpen (g .plan)) 2) after = rw open-more (rule-both (n - 1) (parts g) (g .plan) found (back-test test ∙ stays) (worth-test test stays worth ∙ ap not two)) in
                   record {

@@ -6,12 +6,11 @@ use mathlib.Core.Option.{Option, none, some}
 use lib.ListN.{length, getD, take, replicate}
 use Rattle.diagram.specs.Table.{Table, Variable, choice, chance, sequence, tableOf, root, choiceCount}
 use Rattle.diagram.specs.Score as scores
-use Rattle.diagram.specs.Plans.{openTaken, openCount, cost, upperBound}
+use Rattle.diagram.specs.Plans.{openTaken, openCount, cost, upperBound, LeastPassing}
 use Rattle.diagram.specs.Visits as visits
 use Rattle.diagram.specs.declared.plan.Plan.{Plan}
 use Rattle.scoring.specs.Value.{place, gap, highArc, lowArc}
 use Rattle.scoring.specs.Passes.{over, byNode, Decoded, marksByPosition}
-use Rattle.sweep.specs.Drops.{LargestFailing}
 use Rattle.rule.specs.Rule.{terms, rule}
 use Rattle.layers.specs.Chains.{pick, joined, placed}
 use Rattle.layers.specs.Layers.{Layers}
@@ -64,24 +63,24 @@ numbersFrom lines (suc n) = getD lines (suc n + 42) 0 ∷ numbersFrom lines n
 -- ---------------------------------------------------------------------------
 -- What is held
 
--- What the best plan held has to do with the numbers held: where none is held, the least bound that is worth a visit is one more than the largest score that
--- fails, and the room is 0; where one is held, they are its score and its room, it is within the budget, and its score passes
-pub record Holding (t : Table) (budget failing : ℕ) (q best tally : List ℕ) : Type 0 where
+-- What the best plan held has to do with the numbers held: where none is held, the least bound that is worth a visit is the least score that passes, and the
+-- room is 0; where one is held, they are its score and its room, it is within the budget, and its score passes
+pub record Holding (t : Table) (budget least : ℕ) (q best tally : List ℕ) : Type 0 where
   pub size : length q ≡ choiceCount (t .variables)
   pub plan : best ≡ padded q
   pub scored : getD tally 0 0 ≡ scores.score t q
   pub room : getD tally 1 0 ≡ budget + 1 - cost q
   pub within : cost q ≤ budget
-  pub passes : failing < scores.score t q
+  pub passes : least ≤ scores.score t q
 
-pub record Holds (t : Table) (budget failing : ℕ) (held : Option (List ℕ)) (best tally : List ℕ) : Type 0 where
-  pub nothing : held ≡ none → (getD tally 0 0 ≡ failing + 1) × (getD tally 1 0 ≡ 0)
-  pub something : (q : List ℕ) → held ≡ some q → Holding t budget failing q best tally
+pub record Holds (t : Table) (budget least : ℕ) (held : Option (List ℕ)) (best tally : List ℕ) : Type 0 where
+  pub nothing : held ≡ none → (getD tally 0 0 ≡ least) × (getD tally 1 0 ≡ 0)
+  pub something : (q : List ℕ) → held ≡ some q → Holding t budget least q best tally
 
 -- ---------------------------------------------------------------------------
 -- A visit
 
--- The table and the plan that a search starts from, the nodes in order of position, the percentage, the budget and the largest score that fails, the plan
+-- The table and the plan that a search starts from, the nodes in order of position, the percentage, the budget and the least score that passes, the plan
 -- visited, and the best plan held
 pub record Scene : Type 0 where
   pub table : Table
@@ -89,13 +88,13 @@ pub record Scene : Type 0 where
   pub order : List ℕ
   pub percent : ℕ
   pub budget : ℕ
-  pub failing : ℕ
+  pub least : ℕ
   pub plan : List ℕ
   pub held : Option (List ℕ)
 
 -- What does not change during a search
 pub record Ground (g : Scene) (l : Layers) (losses lines : List ℕ) : Type 0 where
-  pub passing : LargestFailing (g .table) (g .percent) (g .failing)
+  pub passing : LeastPassing (g .table) (g .percent) (g .least)
   pub few : choiceCount (g .table .variables) ≤ 20
   pub layered : Layered (g .table) (g .start) (g .order) l losses
   pub layer : (n : ℕ) → n < openCount (g .start) → Line (g .table) (g .start) (g .order) (getD lines (n + 1) 0) (getD lines (n + 22) 0) (getD lines n 0) (getD lines (n + 43) 0)
@@ -115,7 +114,7 @@ pub record Stands (g : Scene) (lines cells marks : List ℕ) (unsettled room bou
 pub record Visitable (g : Scene) (l : Layers) (losses lines cells marks best tally : List ℕ) (unsettled room bound : ℕ) : Type 0 where
   pub ground : Ground g l losses lines
   pub stands : Stands g lines cells marks unsettled room bound
-  pub holds : Holds (g .table) (g .budget) (g .failing) (g .held) best tally
+  pub holds : Holds (g .table) (g .budget) (g .least) (g .held) best tally
 
 -- What the rule leaves of a visit that finds so many visits counted
 abbrev pub ruled : Scene → (n : ℕ) → visits.Tally
@@ -125,7 +124,7 @@ ruled g n =
 -- What a visit leaves: what the rule leaves, the marks as they were, and the cells of the first `from` nodes as they were. The arrays keep their lengths.
 pub record Visited (g : Scene) (from counted : ℕ) (cells marks cells′ marks′ best′ tally′ : List ℕ) : Type 0 where
   pub sizes : (length cells′ ≡ 512) × (length best′ ≡ 20) × (length tally′ ≡ 3)
-  pub holds : Holds (g .table) (g .budget) (g .failing) (ruled g counted .held) best′ tally′
+  pub holds : Holds (g .table) (g .budget) (g .least) (ruled g counted .held) best′ tally′
   pub counts : getD tally′ 2 0 ≡ ruled g counted .visits
   pub kept : marks′ ≡ marks
   pub same : Same from cells cells′
@@ -166,6 +165,6 @@ pub record Arranged (t : Table) (p : List ℕ) (weight bound : ℕ) (ends order 
   pub ending : Ending t order ends
 
 -- What a search from plan p leaves is document 01's
-pub record Explored (t : Table) (percent budget failing : ℕ) (p best tally : List ℕ) : Type 0 where
-  pub holds : Holds t budget failing (visits.visited t budget percent p .held) best tally
+pub record Explored (t : Table) (percent budget least : ℕ) (p best tally : List ℕ) : Type 0 where
+  pub holds : Holds t budget least (visits.visited t budget percent p .held) best tally
   pub counts : getD tally 2 0 ≡ visits.visited t budget percent p .visits

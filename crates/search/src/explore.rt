@@ -17,13 +17,12 @@ use scoring::values_of;
 use sweep::by_choice;
 ghost use mathlib.Core.Path.{_≡_};
 ghost use mathlib.Core.List.{List};
-ghost use Prim.Native.Nat.{ℕ, _+_, _-_, _≤_, _^_};
+ghost use Prim.Native.Nat.{ℕ, _+_, _-_, _≤_};
 ghost use lib.ListN.{length, getD};
 ghost use Rattle.diagram.specs.Table.{tableOf, choiceCount};
-ghost use Rattle.diagram.specs.Plans.{cost};
+ghost use Rattle.diagram.specs.Plans.{cost, LeastPassing};
 ghost use Rattle.diagram.proofs.Checked.{Passed};
 ghost use Rattle.scoring.specs.Passes.{Decoded, marksByPosition};
-ghost use Rattle.sweep.specs.Drops.{LargestFailing};
 ghost use Rattle.search.specs.State.{rows, Arrays, Ordered, Arranged, Explored};
 
 // Every position by its own number, to be picked from.
@@ -95,13 +94,13 @@ const POSITIONS: [u64; 64] = [
 ];
 
 // What is held and counted after the search of a file that has passed every check, from a plan that the checks 21 and 22 let
-// through; `failing` is the largest score that fails the percentage. The arrays hold the file's records, as `accept` leaves
+// through; `least` is the least score that passes. The arrays hold the file's records, as `accept` leaves
 // them.
 pub fn explore(
     file: &[u8],
     plan: &[u8],
     budget: u32,
-    failing: u64,
+    least: u64,
     positions: &[u8; 256],
     high: &[u8; 256],
     low: &[u8; 256],
@@ -110,10 +109,10 @@ pub fn explore(
 )
     requires passed { ⌜ Passed (now file) ⌝ }
     requires plan { ⌜ (length (now plan) ≡ choiceCount (tableOf (now file) .variables)) × ((i : ℕ) → getD (now plan) i 0 ≤ 2) ⌝ }
-    requires failing { ⌜ (failing ≤ 2 ^ 56) × (budget ≤ 20) × ((percent : ℕ) × LargestFailing (tableOf (now file)) percent failing) ⌝ }
+    requires least { ⌜ (budget ≤ 20) × ((percent : ℕ) × LeastPassing (tableOf (now file)) percent least) ⌝ }
     requires records { ⌜ Decoded (now file) (now positions) (now high) (now low) ⌝ }
     requires sizes { ⌜ (length (now best) ≡ 20) × (length (now tally) ≡ 3) ⌝ }
-    ensures { λ _. ⌜ ((percent : ℕ) → LargestFailing (tableOf (now (file .entry))) percent failing → Explored (tableOf (now (file .entry))) percent budget failing (now (plan .entry)) (now (best .exit)) (now (tally .exit))) ⌝ }
+    ensures { λ _. ⌜ ((percent : ℕ) → LeastPassing (tableOf (now (file .entry))) percent least → Explored (tableOf (now (file .entry))) percent budget least (now (plan .entry)) (now (best .exit)) (now (tally .exit))) ⌝ }
 {
     let n = record_count(file);
     let mut high_arcs = [0u64; 256];
@@ -124,7 +123,7 @@ pub fn explore(
         file,
         plan,
         budget,
-        failing,
+        least,
         best,
         tally,
         n,
@@ -143,7 +142,7 @@ fn arrange(
     file: &[u8],
     plan: &[u8],
     budget: u32,
-    failing: u64,
+    least: u64,
     best: &mut [u8; 20],
     tally: &mut [u64; 3],
     n: usize,
@@ -157,11 +156,11 @@ fn arrange(
 )
     requires passed { ⌜ Passed (now file) ⌝ }
     requires plan { ⌜ (length (now plan) ≡ choiceCount (tableOf (now file) .variables)) × ((i : ℕ) → getD (now plan) i 0 ≤ 2) ⌝ }
-    requires failing { ⌜ (failing ≤ 2 ^ 56) × (budget ≤ 20) × ((percent : ℕ) × LargestFailing (tableOf (now file)) percent failing) ⌝ }
+    requires least { ⌜ (budget ≤ 20) × ((percent : ℕ) × LeastPassing (tableOf (now file)) percent least) ⌝ }
     requires sizes { ⌜ (length (now best) ≡ 20) × (length (now tally) ≡ 3) ⌝ }
     requires arrays { ⌜ Arrays (now file) n weight (now positions) (now high) (now low) (now «high_arcs») (now «low_arcs») ⌝ }
     requires marks { ⌜ now marks ≡ marksByPosition (tableOf (now file)) (now plan) ⌝ }
-    ensures { λ _. ⌜ ((percent : ℕ) → LargestFailing (tableOf (now (file .entry))) percent failing → Explored (tableOf (now (file .entry))) percent budget failing (now (plan .entry)) (now (best .exit)) (now (tally .exit))) ⌝ }
+    ensures { λ _. ⌜ ((percent : ℕ) → LeastPassing (tableOf (now (file .entry))) percent least → Explored (tableOf (now (file .entry))) percent budget least (now (plan .entry)) (now (best .exit)) (now (tally .exit))) ⌝ }
 {
     let v = variable_count(file) as usize;
     let mut order = [0u16; 1024];
@@ -187,7 +186,7 @@ fn arrange(
         file,
         plan,
         budget,
-        failing,
+        least,
         best,
         tally,
         n,
@@ -211,7 +210,7 @@ fn evaluate(
     file: &[u8],
     plan: &[u8],
     budget: u32,
-    failing: u64,
+    least: u64,
     best: &mut [u8; 20],
     tally: &mut [u64; 3],
     n: usize,
@@ -230,11 +229,11 @@ fn evaluate(
 )
     requires passed { ⌜ Passed (now file) ⌝ }
     requires plan { ⌜ (length (now plan) ≡ choiceCount (tableOf (now file) .variables)) × ((i : ℕ) → getD (now plan) i 0 ≤ 2) ⌝ }
-    requires failing { ⌜ (failing ≤ 2 ^ 56) × (budget ≤ 20) × ((percent : ℕ) × LargestFailing (tableOf (now file)) percent failing) ⌝ }
+    requires least { ⌜ (budget ≤ 20) × ((percent : ℕ) × LeastPassing (tableOf (now file)) percent least) ⌝ }
     requires sizes { ⌜ (length (now best) ≡ 20) × (length (now tally) ≡ 3) ⌝ }
     requires arrays { ⌜ Arrays (now file) n weight (now positions) (now high) (now low) (now «high_arcs») (now «low_arcs») ⌝ }
     requires ordered { ⌜ Ordered (now file) (now plan) n (now positions) (now high) (now low) (now «high_arcs») (now «low_arcs») (now marks) (now ends) (now order) (record { starts = now starts; sources = now sources; arcs = now arcs }) ⌝ }
-    ensures { λ _. ⌜ ((percent : ℕ) → LargestFailing (tableOf (now (file .entry))) percent failing → Explored (tableOf (now (file .entry))) percent budget failing (now (plan .entry)) (now (best .exit)) (now (tally .exit))) ⌝ }
+    ensures { λ _. ⌜ ((percent : ℕ) → LeastPassing (tableOf (now (file .entry))) percent least → Explored (tableOf (now (file .entry))) percent budget least (now (plan .entry)) (now (best .exit)) (now (tally .exit))) ⌝ }
 {
     let mut values = [0u64; 256];
     values_of(
@@ -263,7 +262,7 @@ fn evaluate(
         file,
         plan,
         budget,
-        failing,
+        least,
         best,
         tally,
         weight,
@@ -281,7 +280,7 @@ fn first_visit(
     file: &[u8],
     plan: &[u8],
     budget: u32,
-    failing: u64,
+    least: u64,
     best: &mut [u8; 20],
     tally: &mut [u64; 3],
     weight: u64,
@@ -294,10 +293,10 @@ fn first_visit(
 )
     requires passed { ⌜ Passed (now file) ⌝ }
     requires plan { ⌜ (length (now plan) ≡ choiceCount (tableOf (now file) .variables)) × ((i : ℕ) → getD (now plan) i 0 ≤ 2) ⌝ }
-    requires failing { ⌜ (failing ≤ 2 ^ 56) × (budget ≤ 20) × ((percent : ℕ) × LargestFailing (tableOf (now file)) percent failing) ⌝ }
+    requires least { ⌜ (budget ≤ 20) × ((percent : ℕ) × LeastPassing (tableOf (now file)) percent least) ⌝ }
     requires sizes { ⌜ (length (now best) ≡ 20) × (length (now tally) ≡ 3) ⌝ }
     requires arranged { ⌜ ((order : List ℕ) × Arranged (tableOf (now file)) (now plan) weight bound (now ends) order (record { starts = now starts; sources = now sources; arcs = now arcs }) (now losses)) ⌝ }
-    ensures { λ _. ⌜ ((percent : ℕ) → LargestFailing (tableOf (now (file .entry))) percent failing → Explored (tableOf (now (file .entry))) percent budget failing (now (plan .entry)) (now (best .exit)) (now (tally .exit))) ⌝ }
+    ensures { λ _. ⌜ ((percent : ℕ) → LeastPassing (tableOf (now (file .entry))) percent least → Explored (tableOf (now (file .entry))) percent budget least (now (plan .entry)) (now (best .exit)) (now (tally .exit))) ⌝ }
 {
     let places = by_choice(file, &POSITIONS);
     let start = Plan::of_marks(plan);
@@ -308,7 +307,7 @@ fn first_visit(
     let mut cells = [0u64; 512];
     cells[1] = weight;
     let mut marks = start.marks;
-    tally[0] = failing + 1;
+    tally[0] = least;
     tally[1] = 0;
     tally[2] = 0;
     visit(

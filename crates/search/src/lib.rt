@@ -7,10 +7,10 @@ mod visit;
 pub use answer::Finding;
 pub use answer::SearchAnswer;
 use diagram::Refusal;
+use diagram::least_passing;
 use explore::explore;
 use sweep::RequestAnswer;
 use sweep::accept;
-use sweep::largest_failing;
 ghost use mathlib.Core.Path.{_≡_};
 ghost use Prim.Native.Nat.{suc, _+_, _≤_, _^_};
 ghost use lib.ListN.{length, take};
@@ -47,7 +47,7 @@ pub fn search(file: &[u8], plan: &[u8], budget: u32, percent: u32, out: &mut [u8
         file,
         plan,
         budget,
-        largest_failing(percent, t.scale),
+        least_passing(percent, t.scale),
         &positions,
         &high,
         &low,

@@ -1,18 +1,18 @@
 -- No completion passes exactly when the top does not, and a line is forced exactly when it is open and the top less its drop does not pass: what the
 -- filter tests is what brute force over all completions finds. Then the steps of the tests and of the loop that takes the forced lines.
 -- Assumes of the table what checks 17 and 18 find, `Formed` and `Monotone`, and in the tests of a turn that the top and the drops are the plan's: `Swept`.
-use Prim.Native.Nat.{ℕ, zero, suc, _+_, _-_, _*_, _/_, _≤_, _<_}
+use Prim.Native.Nat.{ℕ, zero, suc, _+_, _-_, _≤_, _<_}
 use native.Mathlib.Nat.{zero-add}
 use native.Mathlib.Numerals.{add-one}
 use native.Mathlib.Omega.{arith}
 use mathlib.Core.Path.{_≡_, refl, ap, _∙_}
 use mathlib.Core.Bool.{Bool, true, false, cond, not, _&&_, false≢true}
 use mathlib.Core.List.{List, [], _∷_, append-nil}
-use borrow.Author.Tests.{ltb-true, lt-ltb, eq-eqb, ne-eqb}
+use borrow.Author.Tests.{eq-eqb, ne-eqb}
 use lib.ListN.{length, getD, set}
 use lib.Seq.{drop-length}
-use lib.Dec.{eqb, ltb}
-use Rattle.diagram.specs.Table.{Table, scale, sequence}
+use lib.Dec.{eqb, leb}
+use Rattle.diagram.specs.Table.{Table, sequence}
 use Rattle.diagram.specs.Score.{score}
 use Rattle.diagram.specs.Plans.{completions, openTaken, isOpen, leaves, upperBound, derivative, passes, noneOf, passing, forced, forcedPlan, countOf, forcedCount}
 use Rattle.diagram.proofs.Every.{both-ways}
@@ -31,7 +31,7 @@ use Rattle.diagram.proofs.Rising.{
 }
 use Rattle.scoring.specs.Passes.{over}
 use Rattle.scoring.proofs.Over.{over-next}
-use Rattle.sweep.specs.Drops.{LargestFailing, Swept}
+use Rattle.sweep.specs.Drops.{Swept}
 
 -- ---------------------------------------------------------------------------
 -- Tests
@@ -107,17 +107,6 @@ module _ (t : Table) (formed : Formed (length (t .variables)) (t .records)) (mon
 -- ---------------------------------------------------------------------------
 -- The tests of a turn
 
--- the largest score that fails, from x, the percentage of the table's scale
-pub failing-is : (t : Table) (percent : ℕ) {x r : ℕ} → x ≡ percent * scale t → r ≡ x / 100 → LargestFailing t percent r
-unfolding passes
-failing-is t percent {x} {r} e q y =
-    rw (← e)
-    (both-ways
-    _
-    _
-    (λ h. lt-ltb r y (omega (arith, ltb-true x (100 * y) h, q)))
-    (λ h. lt-ltb x (100 * y) (omega (arith, ltb-true r y h, q))))
-
 -- a closed line is not forced
 pub closed-line : (mark : ℕ) (fails : Bool) → (mark ≡ 0 → ⊥) → false ≡ (eqb mark 0 && fails)
 closed-line mark fails h = rw (ne-eqb mark 0 h) refl
@@ -131,7 +120,7 @@ getD-within [] i h = absurd (omega arith)
 getD-within (m ∷ p) zero h = refl
 getD-within (m ∷ p) (suc i) h = getD-within p i (omega arith)
 
-module _ {t : Table} {p : List ℕ} {percent failing bound : ℕ} {drops : List ℕ} (s : Swept t p percent failing bound drops) where
+module _ {t : Table} {p : List ℕ} {percent least bound : ℕ} {drops : List ℕ} (s : Swept t p percent least bound drops) where
   -- no drop is larger than the top
   pub drop-within : (i : ℕ) → i < length p → getD drops i 0 ≤ bound
   unfolding derivative
@@ -142,7 +131,7 @@ module _ {t : Table} {p : List ℕ} {percent failing bound : ℕ} {drops : List 
       go false x y = omega arith
 
   -- what a turn tests, its line's mark and its line's drop, is whether the line is forced
-  pub forced-turn : (i : ℕ) → i < length p → {mark drop : ℕ} {r : Bool} → mark ≡ getD p i 0 → drop ≡ getD drops i 0 → r ≡ (eqb mark 0 && not (ltb failing (bound - drop))) → forced t percent p i ≡ r
+  pub forced-turn : (i : ℕ) → i < length p → {mark drop : ℕ} {r : Bool} → mark ≡ getD p i 0 → drop ≡ getD drops i 0 → r ≡ (eqb mark 0 && not (leb least (bound - drop))) → forced t percent p i ≡ r
   unfolding isOpen
   forced-turn i h {mark} {drop} m d r =
       forced-is t (s .formed) (s .monotone) percent p i

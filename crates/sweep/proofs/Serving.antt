@@ -8,13 +8,13 @@ use mathlib.Core.List.{List}
 use lib.ListN.{length, take, replicate}
 use lib.Seq.{take-at}
 use Rattle.diagram.specs.Table.{tableOf}
-use Rattle.diagram.specs.Plans.{completions, upperBound, derivative, derivatives, passes, noneOf, passing, forcedPlan, forcedCount}
+use Rattle.diagram.specs.Plans.{completions, upperBound, derivative, derivatives, passes, LeastPassing, noneOf, passing, forcedPlan, forcedCount}
 use Rattle.diagram.specs.Services.{Outcome, refused, answered, written, Reading, sweepOutcome, sweepBuffer, filtering, filterOutcome, filterBuffer}
 use Rattle.diagram.proofs.Places.{sequence-length}
 use Rattle.reading.proofs.Accepted.{passed-formed, passed-monotone, passed-choices}
 use Rattle.scoring.specs.Passes.{over}
 use Rattle.scoring.proofs.Over.{over-sequence-at}
-use Rattle.sweep.specs.Drops.{LargestFailing, Swept}
+use Rattle.sweep.specs.Drops.{Swept}
 use Rattle.sweep.specs.Request.{requestOutcome}
 use Rattle.sweep.proofs.Requesting.{Proper, proper, sweep-refused, sweep-answered, filter-refused, filter-answered}
 
@@ -57,13 +57,13 @@ module _ (s p held : List ℕ) where
 -- The filter
 
 -- the top and the drops of a request that no check turns away
-pub request-swept : {s p : List ℕ} {budget percent size : ℕ} → Proper s p budget percent size → {x y : ℕ} {numbers : List ℕ} → LargestFailing (tableOf s) percent y → x ≡ upperBound (tableOf s) p → numbers ≡ over (derivatives (tableOf s) p) (replicate 20 0) → Swept (tableOf s) p percent y x numbers
+pub request-swept : {s p : List ℕ} {budget percent size : ℕ} → Proper s p budget percent size → {x y : ℕ} {numbers : List ℕ} → LeastPassing (tableOf s) percent y → x ≡ upperBound (tableOf s) p → numbers ≡ over (derivatives (tableOf s) p) (replicate 20 0) → Swept (tableOf s) p percent y x numbers
 unfolding derivatives
-request-swept {s} {p} ok {x} {y} failing ex en =
+request-swept {s} {p} ok {x} {y} least ex en =
     record {
       formed = passed-formed (ok .passed);
       monotone = passed-monotone (ok .passed);
-      passing = failing;
+      passing = least;
       top = ex;
       few = omega (arith, passed-choices (ok .passed));
       derivatives = λ i l. rw en (over-sequence-at (derivative (tableOf s) p) (replicate 20 0) (length p) i l);

@@ -4,9 +4,9 @@ use mathlib.Core.Path.{_≡_}
 use mathlib.Core.Bool.{Bool, true, cond, _&&_}
 use mathlib.Core.List.{List}
 use lib.ListN.{length, getD, take}
-use lib.Dec.{eqb, ltb}
+use lib.Dec.{eqb}
 use Rattle.diagram.specs.Table.{Table, chance, recordAt, isChoice, choiceCount}
-use Rattle.diagram.specs.Plans.{openTaken, upperBound, derivative, passes}
+use Rattle.diagram.specs.Plans.{openTaken, upperBound, derivative, LeastPassing}
 use Rattle.diagram.proofs.Truth.{Formed}
 use Rattle.diagram.proofs.Rising.{Monotone}
 use Rattle.scoring.specs.Value.{value, variableAt, lowArc}
@@ -72,15 +72,11 @@ Chosen t f cells =
 -- ---------------------------------------------------------------------------
 -- What the filter works on
 
--- The largest score that fails a percentage: a score passes when it is more
-abbrev pub LargestFailing : Table → (percent failing : ℕ) → Type 0
-LargestFailing t percent failing = (x : ℕ) → passes t percent x ≡ ltb failing x
-
--- The top and the drops of an accepted table under a legal plan, and the largest score that fails a percentage
-pub record Swept (t : Table) (p : List ℕ) (percent failing bound : ℕ) (drops : List ℕ) : Type 0 where
+-- The top and the drops of an accepted table under a legal plan, and the least score that passes a percentage
+pub record Swept (t : Table) (p : List ℕ) (percent least bound : ℕ) (drops : List ℕ) : Type 0 where
   pub formed : Formed (length (t .variables)) (t .records)
   pub monotone : Monotone t
-  pub passing : LargestFailing t percent failing
+  pub passing : LeastPassing t percent least
   pub top : bound ≡ upperBound t p
   pub few : length p ≤ 20
   pub derivatives : (i : ℕ) → i < length p → getD drops i 0 ≡ derivative t p i

@@ -10,9 +10,10 @@ pub use answer::FilterAnswer;
 pub use answer::RequestAnswer;
 pub use answer::SweepAnswer;
 use diagram::Refusal;
+use diagram::least_passing;
+use diagram::passes;
 pub use drops::by_choice;
 use forced::force;
-pub use forced::largest_failing;
 pub use request::accept;
 use two_pass::two_passes;
 ghost use mathlib.Core.Path.{_≡_};
@@ -83,13 +84,13 @@ pub fn filter(file: &[u8], plan: &[u8], percent: u32, out: &mut [u8]) -> FilterA
         RequestAnswer::Refused(r) => return FilterAnswer::Refused(r),
     };
     let swept = two_passes(file, plan, &positions, &high, &low);
-    let failing = largest_failing(percent, t.scale);
-    if swept.bound <= failing {
+    let least = least_passing(percent, t.scale);
+    if !passes(least, swept.bound) {
         return FilterAnswer::Refused(Refusal {
             number: 31,
             place: 0,
         });
     }
     let numbers = swept.drops;
-    FilterAnswer::Forced(force(plan, failing, swept.bound, &numbers, out))
+    FilterAnswer::Forced(force(plan, least, swept.bound, &numbers, out))
 }

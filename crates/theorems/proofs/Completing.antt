@@ -8,7 +8,7 @@ use mathlib.Core.Bool.{Bool, true, false, not, _&&_, false≢true}
 use mathlib.Core.Logic.{_⊎_, inl, inr, _↔_}
 use mathlib.Core.List.{List, [], _∷_}
 use lib.ListN.{length, getD}
-use borrow.Author.Tests.{ltb-true, lt-ltb, eqb-true, eq-eqb, ne-eqb, not-true}
+use borrow.Author.Tests.{leb-true, le-leb, eqb-true, eq-eqb, ne-eqb, not-true}
 use Rattle.diagram.specs.Table.{tableOf}
 use Rattle.diagram.specs.Plans.{completions, isOpen, leaves, noneOf, passing, passes}
 use Rattle.diagram.proofs.Every.{both, and-true-both}
@@ -107,13 +107,13 @@ module _ (s : List ℕ) (percent : ℕ) (p : List ℕ) where
   unfolding passing passes
   no-way-passes =
       let law = none-test (passing (tableOf s) percent) p in
-      (λ e c h l. law .0 e c h (lt-ltb _ _ l), λ n. law .1 (λ c h t. n c h (ltb-true _ _ t)))
+      (λ e c h l. law .0 e c h (le-leb _ _ l), λ n. law .1 (λ c h t. n c h (leb-true _ _ t)))
 
   -- no passing completion leaves line i
   pub no-way-leaves : (i : ℕ) → (noneOf (λ c. passing (tableOf s) percent c && leaves c i) (completions p) ≡ true) ↔ NoneLeaves s p percent i
   unfolding passing passes leaves
   no-way-leaves i =
       let law = none-test (λ c. passing (tableOf s) percent c && leaves c i) p in (
-        λ e c h l x. law .0 e c h (and-true-both _ _ (lt-ltb _ _ l) (eq-eqb _ 2 x)),
-        λ n. law .1 (λ c h t. let r = both (passing (tableOf s) percent c) t in n c h (ltb-true _ _ (r .0)) (eqb-true _ 2 (r .1))),
+        λ e c h l x. law .0 e c h (and-true-both _ _ (le-leb _ _ l) (eq-eqb _ 2 x)),
+        λ n. law .1 (λ c h t. let r = both (passing (tableOf s) percent c) t in n c h (leb-true _ _ (r .0)) (eqb-true _ 2 (r .1))),
       )

@@ -10,7 +10,7 @@ use mathlib.Core.Option.{Option, none, some}
 use mathlib.Core.List.{List, _∷_}
 use lib.ListN.{length, getD}
 use lib.Dec.{eqb, ltb, leb}
-use borrow.Author.Tests.{ltb-true, lt-ltb, leb-true, le-leb, eq-eqb}
+use borrow.Author.Tests.{leb-true, le-leb, eq-eqb}
 use Rattle.diagram.specs.Table.{tableOf}
 use Rattle.diagram.specs.Score.{score, scoreFrom, total}
 use Rattle.diagram.specs.Plans.{cost, takenCount, passing, passes}
@@ -88,14 +88,14 @@ module _ (s p : List ℕ) (budget percent : ℕ) where
   pub candidate-test : {c : List ℕ} → Candidate s p budget percent c → Completes p c × (isCandidate (tableOf s) budget percent c ≡ true)
   unfolding isCandidate cost passing passes
   candidate-test {c} k =
-      (completion-completes p c (k .finishes), and-true-both _ _ (le-leb _ _ (k .within)) (lt-ltb _ _ (k .passes)))
+      (completion-completes p c (k .finishes), and-true-both _ _ (le-leb _ _ (k .within)) (le-leb _ _ (k .passes)))
 
   -- a plan that finishes the one given and whose test holds is a candidate
   test-candidate : {c : List ℕ} → Completes p c → isCandidate (tableOf s) budget percent c ≡ true → Candidate s p budget percent c
   unfolding isCandidate cost passing passes
   test-candidate {c} k e =
       let r = both (leb (takenCount c) budget) e in
-      record { finishes = completes-completion k; within = leb-true _ _ (r .0); passes = ltb-true _ _ (r .1) }
+      record { finishes = completes-completion k; within = leb-true _ _ (r .0); passes = leb-true _ _ (r .1) }
 
   -- what is demanded where there is no best plan
   pub none-holds : bestPlan (tableOf s) budget percent p ≡ none → (held : List ℕ) → SearchHolds s p budget percent held refused-32 held

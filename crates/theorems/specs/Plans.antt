@@ -1,5 +1,5 @@
--- What document 01 says of plans, completions, passing and candidates, in words that the demands share, with every quantifier written out: no list of
--- completions is gone through.
+-- What document 01 says of plans, completions and candidates, and document 02, paper 1, of passing, in words that the demands share, with every quantifier
+-- written out: no list of completions is gone through.
 use Prim.Native.Nat.{ℕ, _*_, _≤_, _<_}
 use mathlib.Core.Path.{_≡_}
 use mathlib.Core.Logic.{_⊎_}
@@ -29,9 +29,9 @@ pub record Completion (plan way : List ℕ) : Type 0 where
   pub settled : (i : ℕ) → Open plan i → (getD way i 0 ≡ 1) ⊎ (getD way i 0 ≡ 2)
   pub kept : (i : ℕ) → i < length plan → (getD plan i 0 ≡ 0 → ⊥) → getD way i 0 ≡ getD plan i 0
 
--- "It passes when its score does", the score counted afresh: "100 times the score is more than p times B"
+-- "It passes when its score does", the score counted afresh: "100 times the score is not less than p times B"
 abbrev pub Passing : (file : List ℕ) → (percent : ℕ) → (way : List ℕ) → Type 0
-Passing file percent way = percent * scale (tableOf file) < 100 * score (tableOf file) way
+Passing file percent way = percent * scale (tableOf file) ≤ 100 * score (tableOf file) way
 
 -- "no way of settling the open lines passes"
 abbrev pub NonePasses : (file plan : List ℕ) → (percent : ℕ) → Type 0

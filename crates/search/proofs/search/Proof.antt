@@ -5,15 +5,15 @@ use mathlib.Core.Path.{_≡_, refl}
 use lib.ListN.{length}
 use borrow.Author.Needs.{needs}
 use Rattle.diagram.specs.Table.{tableOf, scale}
+use Rattle.diagram.specs.Plans.{LeastPassing}
 use Rattle.diagram.specs.Services.{answered}
 use Rattle.reading.proofs.Outcomes.{numbers}
 use Rattle.reading.proofs.Accepted.{passed-scale, passed-choices}
 use Rattle.scoring.proofs.Requests.{decoded-read}
-use Rattle.sweep.specs.Drops.{LargestFailing}
 use Rattle.sweep.specs.Request.{requestOutcome}
 use Rattle.sweep.proofs.Requesting.{Proper, refused-request, accepted-request, accepted-proper, accepted-scale}
 use Rattle.search.specs.State.{Explored}
-use Rattle.search.proofs.Answering.{failing-fits, search-turned, search-32, held-long, search-found}
+use Rattle.search.proofs.Answering.{search-turned, search-32, held-long, search-found}
 use Rattle.search.proofs.search.Statement.{statement}
 use Rattle.search.proofs.search.Tie as tie
 
@@ -31,17 +31,17 @@ request-proper c = accepted-proper _ _ _ _ _ (c .before .before .before .accept 
 request-scale : (c : tie.After-known-told) → c .before .t .given .0 .0 .scale ≡ scale (tableOf (c .before .before .before .before .before .before .before .before .before .before .args .file .now))
 request-scale c = accepted-scale _ _ _ _ _ (c .before .before .before .accept .ensures .0) _ (c .before .t .given .1)
 
--- the largest score that fails
-failing : (c : tie.After-largest-failing) →
+-- the least score that passes
+least : (c : tie.After-least-passing) →
     let a = c .before .before .before .before .before .before .before .before .before .before .before .args in
-    LargestFailing (tableOf (a .file .now)) (a .percent) (c .largest-failing .result)
-failing c = c .largest-failing .ensures _ (request-scale (c .before))
+    LeastPassing (tableOf (a .file .now)) (a .percent) (c .least-passing .result)
+least c = c .least-passing .ensures _ (request-scale (c .before))
 
 -- what the visits hold and have counted
 explored : (c : tie.After-explore) →
     let a = c .before .before .before .before .before .before .before .before .before .before .before .before .before .before .before .before .before .args in
-    Explored (tableOf (a .file .now)) (a .percent) (a .budget) (c .before .before .before .before .before .before .largest-failing .result) (a .plan .now) (c .explore .last .1 .1 .1 .1 .1 .1 .1 .0) (c .explore .last .1 .1 .1 .1 .1 .1 .1 .1 .0)
-explored c = c .explore .ensures _ (failing (c .before .before .before .before .before .before))
+    Explored (tableOf (a .file .now)) (a .percent) (a .budget) (c .before .before .before .before .before .before .least-passing .result) (a .plan .now) (c .explore .last .1 .1 .1 .1 .1 .1 .1 .0) (c .explore .last .1 .1 .1 .1 .1 .1 .1 .1 .0)
+explored c = c .explore .ensures _ (least (c .before .before .before .before .before .before))
 
 accept-requires : tie.Need-accept-requires
 accept-requires c κs = search needs
@@ -56,8 +56,8 @@ returns : tie.Need-returns
 returns c =
     search-turned _ _ _ _ _ _ (refused-request _ _ _ _ _ (c .before .before .before .accept .ensures .0) _ (c .before .r .given .1))
 
-largest-failing-requires : tie.Need-largest-failing-requires
-largest-failing-requires c κs =
+least-passing-requires : tie.Need-least-passing-requires
+least-passing-requires c κs =
     let ok = request-proper c in
     let scales = request-scale c in
     (ok .percents, omega (arith, scales, passed-scale (ok .passed)))
@@ -65,11 +65,11 @@ largest-failing-requires c κs =
 explore-requires : tie.Need-explore-requires
 explore-requires c κs =
     let ok = request-proper (c .before .before .before .before .before .before) in
-    let fails = failing (c .before .before .before .before .before) in (
+    let passing = least (c .before .before .before .before .before) in (
       ok .passed,
       (
         (ok .long, ok .legal),
-        ((failing-fits _ _ _ fails (ok .percents) (passed-scale (ok .passed)), ok .budgets, (_, fails)), (decoded-read _ _ _ (ok .read) (c .before .before .before .before .before .before .before .before .before .accept .ensures .1), (refl, refl))),
+        ((ok .budgets, (_, passing)), (decoded-read _ _ _ (ok .read) (c .before .before .before .before .before .before .before .before .before .accept .ensures .1), (refl, refl))),
       ),
     )
 
@@ -108,7 +108,7 @@ search-spec =
     enum-known-t
     enum-known-r
     returns
-    largest-failing-requires
+    least-passing-requires
     explore-requires
     array-read-if1
     returns-2

@@ -4,15 +4,15 @@ use native.Mathlib.Omega.{arith}
 use mathlib.Core.Path.{_≡_, sym, _∙_}
 use mathlib.Core.Bool.{not}
 use lib.ListN.{length}
-use borrow.Author.Tests.{lt-ltb, le-ltb}
+use borrow.Author.Tests.{not-true, not-false}
 use Rattle.diagram.specs.Table.{tableOf, scale}
-use Rattle.diagram.specs.Plans.{completions, upperBound, passes, noneOf, passing}
+use Rattle.diagram.specs.Plans.{completions, upperBound, passes, LeastPassing, noneOf, passing}
 use Rattle.diagram.specs.Services.{answered}
 use Rattle.reading.proofs.Accepted.{passed-formed, passed-scale, passed-monotone}
 use Rattle.reading.proofs.Outcomes.{numbers}
 use Rattle.scoring.proofs.Requests.{decoded-read}
 use Rattle.sweep.specs.Answer.{filterOf}
-use Rattle.sweep.specs.Drops.{LargestFailing, Swept}
+use Rattle.sweep.specs.Drops.{Swept}
 use Rattle.sweep.specs.Request.{requestOutcome}
 use Rattle.sweep.proofs.ForcedLines.{none-passes}
 use Rattle.sweep.proofs.Requesting.{Proper, refused-request, accepted-request, accepted-proper, accepted-scale}
@@ -37,13 +37,13 @@ none-top c =
     let ok = request-proper c in
     none-passes _ (passed-formed (ok .passed)) (passed-monotone (ok .passed)) _ _
 
--- the largest score that fails
-failing : (c : tie.After-largest-failing) → LargestFailing (tableOf (c .before .before .before .before .before .before .before .before .before .before .before .before .before .before .before .args .file .now)) (c .before .before .before .before .before .before .before .before .before .before .before .before .before .before .before .args .percent) (c .largest-failing .result)
-failing c = c .largest-failing .ensures _ (request-scale (c .before .before .before .before .before))
+-- the least score that passes
+least : (c : tie.After-least-passing) → LeastPassing (tableOf (c .before .before .before .before .before .before .before .before .before .before .before .before .before .before .before .args .file .now)) (c .before .before .before .before .before .before .before .before .before .before .before .before .before .before .before .args .percent) (c .least-passing .result)
+least c = c .least-passing .ensures _ (request-scale (c .before .before .before .before .before))
 
 -- the top and the drops, as `force` wants them
-swept : (c : tie.After-largest-failing) → Swept (tableOf (c .before .before .before .before .before .before .before .before .before .before .before .before .before .before .before .args .file .now)) (c .before .before .before .before .before .before .before .before .before .before .before .before .before .before .before .args .plan .now) (c .before .before .before .before .before .before .before .before .before .before .before .before .before .before .before .args .percent) (c .largest-failing .result) (c .before .two-passes .result .bound) (c .before .two-passes .result .drops)
-swept c = request-swept (request-proper (c .before .before .before .before .before)) (failing c) (c .before .two-passes .ensures .0) (c .before .two-passes .ensures .1)
+swept : (c : tie.After-least-passing) → Swept (tableOf (c .before .before .before .before .before .before .before .before .before .before .before .before .before .before .before .args .file .now)) (c .before .before .before .before .before .before .before .before .before .before .before .before .before .before .before .args .plan .now) (c .before .before .before .before .before .before .before .before .before .before .before .before .before .before .before .args .percent) (c .least-passing .result) (c .before .two-passes .result .bound) (c .before .two-passes .result .drops)
+swept c = request-swept (request-proper (c .before .before .before .before .before)) (least c) (c .before .two-passes .ensures .0) (c .before .two-passes .ensures .1)
 
 accept-requires : tie.Need-accept-requires
 accept-requires c κs = search needs
@@ -63,18 +63,21 @@ two-passes-requires c κs =
     let ok = request-proper (c .before .before .before) in
     (ok .passed, ((ok .long, ok .legal), decoded-read _ _ _ (ok .read) (c .before .before .before .before .before .before .accept .ensures .1)))
 
-largest-failing-requires : tie.Need-largest-failing-requires
-largest-failing-requires c κs =
+least-passing-requires : tie.Need-least-passing-requires
+least-passing-requires c κs =
     let ok = request-proper (c .before .before .before .before) in
     let scales = request-scale (c .before .before .before .before) in
     (ok .percents, omega (arith, scales, passed-scale (ok .passed)))
+
+passes-requires : tie.Need-passes-requires
+passes-requires c κs = search needs
 
 returns-2 : tie.Need-returns-2
 unfolding filterOf
 returns-2 c =
     let at = c .before .before .before .before .before .before .before in
     filter-31 _ _ _ _ _ (request-answered at) (none-top at) (c .before .before .before .two-passes .ensures .0)
-    (failing (c .before .before) _ ∙ le-ltb (c .before .before .largest-failing .result) _ (omega (arith, c .if1 .taken)))
+    (least (c .before .before) _ ∙ sym (c .before .passes .ensures) ∙ not-true _ (c .if1 .taken))
 
 force-requires : tie.Need-force-requires
 force-requires c κs =
@@ -90,7 +93,7 @@ returns-3 c =
     let at = c .before .before .before .before .before .before .before .before .before .before .before .before .before in
     let forced = c .before .before .force .ensures _ _ (swept (c .before .before .before .before .before .before .before .before)) in
     filter-done _ _ _ _ _ (request-answered at) (none-top at) (c .before .before .before .before .before .before .before .before .before .two-passes .ensures .0)
-    (failing (c .before .before .before .before .before .before .before .before) _ ∙ lt-ltb (c .before .before .before .before .before .before .before .before .largest-failing .result) _ (omega (arith, c .before .before .before .before .before .before .if1 .left)))
+    (least (c .before .before .before .before .before .before .before .before) _ ∙ sym (c .before .before .before .before .before .before .before .passes .ensures) ∙ not-false _ (c .before .before .before .before .before .before .if1 .left))
     (forced .0)
     (forced .1)
 
@@ -103,7 +106,8 @@ filter-spec =
     enum-known-r
     returns
     two-passes-requires
-    largest-failing-requires
+    least-passing-requires
+    passes-requires
     returns-2
     force-requires
     same-length

@@ -59,9 +59,6 @@ line-ranks-requires c κs =
 array-write-cells : tie.Need-array-write-cells
 array-write-cells c = search needs
 
-add-tally : tie.Need-add-tally
-add-tally c = search needs
-
 element-write-tally : tie.Need-element-write-tally
 element-write-tally c = search needs
 
@@ -75,7 +72,7 @@ cost-of-requires : tie.Need-cost-of-requires
 cost-of-requires c κs = search needs
 
 room-of-requires : tie.Need-room-of-requires
-room-of-requires c κs = c .before .before .before .before .before .before .before .before .before .before .before .before .before .before .before .before .before .before .pre .1 .1 .0 .1
+room-of-requires c κs = c .before .before .before .before .before .before .before .before .before .before .before .before .before .before .before .before .before .before .pre .1 .1 .0 .0
 
 visit-requires : tie.Need-visit-requires
 visit-requires c κs =
@@ -83,10 +80,10 @@ visit-requires c κs =
     let passed = start .pre .0 in
     let r = ready (c .before .before .before .before .before .before .before .before .before .before .before .before .before) in
     let sizes = start .pre .1 .1 .1 .0 in
-    let held = nothing-held (tableOf (start .args .file .now)) (start .args .budget) (start .args .failing) (start .args .best .now) (start .args .tally .now) (sizes .1) refl refl refl refl in
-    let failing = start .pre .1 .1 .0 .2 in
-    let visitable = first-visitable passed (start .pre .1 .0 .0) r (start .pre .1 .1 .1 .1 .1) (c .before .before .before .before .before .before .before .before .line-ranks .ensures) refl refl (c .room-of .ensures ∙ rw (c .before .cost-of .ensures) refl) (failing .1) (held .0) in
-    ((refl, r .handed .2, sizes .0, held .1), ((firstScene _ _ _ (failing .0) _ _, visitable), first-room passed (start .pre .1 .0 .0) r (held .2)))
+    let held = nothing-held (tableOf (start .args .file .now)) (start .args .budget) (start .args .least) (start .args .best .now) (start .args .tally .now) (sizes .1) refl refl refl refl in
+    let passing = start .pre .1 .1 .0 .1 in
+    let visitable = first-visitable passed (start .pre .1 .0 .0) r (start .pre .1 .1 .1 .1 .1) (c .before .before .before .before .before .before .before .before .line-ranks .ensures) refl refl (c .room-of .ensures ∙ rw (c .before .cost-of .ensures) refl) (passing .1) (held .0) in
+    ((refl, r .handed .2, sizes .0, held .1), ((firstScene _ _ _ (passing .0) _ _, visitable), first-room passed (start .pre .1 .0 .0) r (held .2)))
 
 returns : tie.Need-returns
 returns c percent passing =
@@ -94,7 +91,7 @@ returns c percent passing =
     let passed = start .pre .0 in
     let r = ready (c .before .before .before .before .before .before .before .before .before .before .before .before .before .before) in
     let sizes = start .pre .1 .1 .1 .0 in
-    let held = nothing-held (tableOf (start .args .file .now)) (start .args .budget) (start .args .failing) (start .args .best .now) (start .args .tally .now) (sizes .1) refl refl refl refl in
+    let held = nothing-held (tableOf (start .args .file .now)) (start .args .budget) (start .args .least) (start .args .best .now) (start .args .tally .now) (sizes .1) refl refl refl refl in
     let visitable = first-visitable passed (start .pre .1 .0 .0) r (start .pre .1 .1 .1 .1 .1) (c .before .before .before .before .before .before .before .before .before .line-ranks .ensures) refl refl (c .before .room-of .ensures ∙ rw (c .before .before .cost-of .ensures) refl) passing (held .0) in
     first-explored passed (held .2) (c .visit .ensures _ visitable)
 
@@ -107,7 +104,6 @@ first-visit-spec =
     open-lines-requires
     line-ranks-requires
     array-write-cells
-    add-tally
     element-write-tally
     element-write-tally-2
     element-write-tally-3

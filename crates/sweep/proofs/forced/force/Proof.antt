@@ -13,14 +13,14 @@ use Rattle.sweep.proofs.forced.force.Statement.{statement}
 use Rattle.sweep.proofs.forced.force.Tie as tie
 
 abbrev Inv-loop : tie.InvT-loop
-Inv-loop plan failing bound drops out₀ count₀ i₀ out count i =
-    (i ≤ length plan) × (count ≤ i) × (length out ≡ length plan) × ((t : Table) (percent : ℕ) → Swept t plan percent failing bound drops → Forcing t percent plan out₀ i count out)
+Inv-loop plan least bound drops out₀ count₀ i₀ out count i =
+    (i ≤ length plan) × (count ≤ i) × (length out ≡ length plan) × ((t : Table) (percent : ℕ) → Swept t plan percent least bound drops → Forcing t percent plan out₀ i count out)
 
 abbrev μ-loop : tie.MeasureT-loop
-μ-loop plan failing bound drops out₀ count₀ i₀ out count i = length plan - i
+μ-loop plan least bound drops out₀ count₀ i₀ out count i = length plan - i
 
 -- the test of a turn
-tested : (c : tie.After-is-forced Inv-loop μ-loop) → let a = c .before .before .before .before .before .before .before .args in (t : Table) (percent : ℕ) → Swept t (a .plan .now) percent (a .failing) (a .bound) (a .drops .now) → forced t percent (a .plan .now) (c .before .before .before .before .loop .i) ≡ c .is-forced .result
+tested : (c : tie.After-is-forced Inv-loop μ-loop) → let a = c .before .before .before .before .before .before .before .args in (t : Table) (percent : ℕ) → Swept t (a .plan .now) percent (a .least) (a .bound) (a .drops .now) → forced t percent (a .plan .now) (c .before .before .before .before .loop .i) ≡ c .is-forced .result
 tested c = λ t percent s. forced-turn s (c .before .before .before .before .loop .i) (omega arith) refl refl (c .is-forced .ensures)
 
 loop-holds : tie.Need-loop-holds Inv-loop μ-loop
