@@ -420,7 +420,6 @@ searches("search, ten pairs", pairs, [0] * 20, [(20, 0), (20, 99), (20, 100), (2
 searches("search, ten pairs, some settled", pairs, [0, 1, 2, 0, 0] * 4, [(20, 0), (5, 0), (4, 0), (4, 1), (3, 0)])
 
 
-
 def every_way(label, t, plan, percents):
     """The filter, the search with no kits and with as many as there are lines, and the program, at the same percentages."""
     filters(f"at least, filter, {label}", t, plan, percents)
@@ -436,7 +435,7 @@ every_way("a certain link without lines", table([chance(0, 1000, 1000)], last), 
 every_way("all but certain", table([chance(0, 999, 1000)], last), [], (99, 100))
 sure = [choice(0)] + [chance(1 + i, 128, 128) for i in range(8)]
 every_way("certain, 2^56", table(sure, [record(8 - k, k + 1, 0) for k in range(9)]), [0], (0, 99, 100))
-note("0 percent refuses nothing, also where the top is 0")
+note("0 percent, which every score passes, also where the top is 0")
 every_way("never", table([choice(0), chance(1, 0, 5)], [record(1, 1, 0), record(0, 2, 0)]), [0], (0, 1, 100))
 every_way("false", table([choice(0)], [record(0, 0, 0)]), [0], (0, 1))
 every_way("false without lines", table([chance(0, 3, 10)], [record(0, 0, 0)]), [], (0, 1))

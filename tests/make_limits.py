@@ -1,9 +1,10 @@
 #!/usr/bin/env python3
-"""Writes the standard input of the programs `plan_at_limit` and `plan_past_limit`, and what they have to print, the latter by oracle.py.
+"""Writes the standard input of the programs `plan_at_limit`, `plan_past_limit` and `plan_certain`, and what they have to print, the latter by oracle.py.
 
 Both inputs begin with a job word and a table of 60 variables and 254 records, 1,264 bytes, which is the longest job that is answered.
 `plan_at_limit` reads these bytes alone. `plan_past_limit` has 36 more, so that the table is longer than any, which is refused; it then
 prints how many bytes are left unread, which are those after the first 1,265.
+`plan_certain` reads a job of one kit and 100 percent, and table A of document 01 with certain events, 2/2 and 10/10.
 Run it in this folder: python3 make_limits.py
 """
 from oracle import bytes_of, printout, word
@@ -45,3 +46,6 @@ assert len(job) == 1264 and printout(job).startswith("choices 4 ")
 write("plan_at_limit", job)
 past = job + bytes_of(table[-9:])
 write("plan_past_limit", past, str(len(past) - 1265))
+
+certain = [0x11002000, 0x20000000, 0x30401002, 0x20800000, 0x30C0500A, 0x40C00800, 0x40801000, 0x40400803, 0x40002003]
+write("plan_certain", bytes_of([word(5, 1, 0, 100)] + certain))

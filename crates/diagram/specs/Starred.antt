@@ -1,9 +1,9 @@
 -- Document 01, "Tried at the counter": the twelve starred cases, five of which have another answer since paper 1 of document 02, and what else that paper
--- says of certain events and of the printed job. One claim is about them all.
+-- says of its tables and of the printed job. One claim is about them all.
 use Prim.Native.Nat.{ℕ}
 use mathlib.Core.Path.{_≡_, refl}
 use mathlib.Core.List.{List, [], _∷_, _++_, map}
-use lib.ListN.{length}
+use lib.ListN.{length, replicate}
 use Rattle.diagram.specs.Words.{wordAt}
 use Rattle.diagram.specs.Table.{sequence, variableCount, recordCount, variableOf, recordOf, tableOf, recordAt, root, isChoice, choiceCount, scaleOf, scale}
 use Rattle.diagram.specs.Score.{walk, truth, settlings, weight, sum, total, scoreFrom, score, assignments, every, implies}
@@ -52,7 +52,7 @@ tableB last =
     ∷ 0x40 ∷ 0x40 ∷ 0x08 ∷ 0x00
     ∷ last
 
--- A request to a service, with buffers of the right size for table A; `printed` is the program on its input
+-- A request to a service, with buffers of the right size for two choices; `printed` is the program on its input
 pub data Request : Type 0 where
   read : (file : List ℕ) → Request
   scored : (file plan : List ℕ) → Request
@@ -61,7 +61,7 @@ pub data Request : Type 0 where
   searched : (file plan : List ℕ) → (budget percent : ℕ) → Request
   printed : (input : List ℕ) → Request
 
--- The numbers that a service returns, then what it writes
+-- The numbers that a service returns, but for the visits, which `printed` shows, then what it writes
 unfoldable pub numbers : {A : Type 0} → (A → List ℕ) → Outcome A → Outcome (List ℕ)
 numbers of (refused number place) = refused number place
 numbers of (answered a) = answered (of a)
@@ -101,11 +101,8 @@ starred =
     ∷ record { requests = filtered tableA allOpen 60 ∷ []; answers = answered (1 ∷ 0 ∷ 1 ∷ []) ∷ [] }
     -- A, 79: both forced
     ∷ record { requests = filtered tableA allOpen 79 ∷ []; answers = answered (2 ∷ 1 ∷ 1 ∷ []) ∷ [] }
-    -- A, 80: paper 1, "80 forces both; 31 first comes at 81"
-    ∷ record {
-      requests = filtered tableA allOpen 80 ∷ filtered tableA allOpen 81 ∷ [];
-      answers = answered (2 ∷ 1 ∷ 1 ∷ []) ∷ refused 31 0 ∷ [];
-    }
+    -- A, 80: paper 1, "80 forces both"
+    ∷ record { requests = filtered tableA allOpen 80 ∷ []; answers = answered (2 ∷ 1 ∷ 1 ∷ []) ∷ [] }
     -- A, kits 2, percent 60: both, 16
     ∷ record { requests = searched tableA allOpen 2 60 ∷ []; answers = answered (16 ∷ 1 ∷ 1 ∷ []) ∷ [] }
     -- A, kits 1, percent 60: paper 1, "kits 1 with 60 gives line 1"
@@ -144,6 +141,26 @@ paper1 =
           ∷ 49 ∷ 32 ∷ 116 ∷ 97 ∷ 107 ∷ 101 ∷ 10
           ∷ []
           ) ∷ [];
+    }
+    -- "kits 1 with 60 gives line 1", in five visits: the top of the visit before the last is the least score that passes
+    ∷ record {
+      requests = printed (0x50 ∷ 0x40 ∷ 0x00 ∷ 0x3C ∷ tableA) ∷ [];
+      answers = answered (
+          99 ∷ 104 ∷ 111 ∷ 105 ∷ 99 ∷ 101 ∷ 115 ∷ 32 ∷ 50 ∷ 32 ∷ 115 ∷ 99 ∷ 97 ∷ 108 ∷ 101 ∷ 32 ∷ 50 ∷ 48 ∷ 10
+          ∷ 107 ∷ 105 ∷ 116 ∷ 115 ∷ 32 ∷ 49 ∷ 32 ∷ 115 ∷ 99 ∷ 111 ∷ 114 ∷ 101 ∷ 32 ∷ 49 ∷ 50 ∷ 32 ∷ 118 ∷ 105 ∷ 115 ∷ 105 ∷ 116 ∷ 115 ∷ 32 ∷ 53 ∷ 10
+          ∷ 48 ∷ 32 ∷ 108 ∷ 101 ∷ 102 ∷ 116 ∷ 10
+          ∷ 49 ∷ 32 ∷ 116 ∷ 97 ∷ 107 ∷ 101 ∷ 10
+          ∷ []
+          ) ∷ [];
+    }
+    -- "50 forces nothing; 60 forces line 1 only; 80 forces both; 31 first comes at 81": every percentage from 0 to 100
+    ∷ record {
+      requests = sequence (filtered tableA allOpen) 0 101;
+      answers =
+          replicate 51 (answered (0 ∷ 0 ∷ 0 ∷ []))
+          ++ replicate 10 (answered (1 ∷ 0 ∷ 1 ∷ []))
+          ++ replicate 20 (answered (2 ∷ 1 ∷ 1 ∷ []))
+          ++ replicate 20 (refused 31 0);
     }
     ∷ []
 

@@ -15,7 +15,7 @@ pub fn least_passing(percent: u32, scale: u64) -> u64
     (percent as u64 * scale + 99) / 100
 }
 
-// Whether a score passes, by the least that does.
+// Whether a score passes, by the least that does; and in a search, whether a bound reaches the least that is worth a visit.
 pub fn passes(least: u64, score: u64) -> bool
     ensures { λ r. ⌜ r ≡ leb least score ⌝ }
 {

@@ -30,7 +30,8 @@ pub fn goes_back(tally: &[u64; 3], room: u64, bound: u64) -> bool
     is_beaten(tally, bound)
 }
 
-// Whether a bound is less than any that is worth a visit: it does not pass, or it is less than the score of the plan held.
+// Whether a bound is less than any that is worth a visit: it does not pass, or it is less than the score of the plan held, which
+// passes, so that one test is enough.
 pub fn is_beaten(tally: &[u64; 3], bound: u64) -> bool
     ensures { λ r. ⌜ r ≡ not (leb (getD (now (tally .entry)) 0 0) bound) ⌝ }
 {
