@@ -1,5 +1,5 @@
 -- Document 01, "Tried at the counter": the twelve starred cases, five of which have another answer since paper 1 of document 02, and what else that paper
--- says of its tables and of the printed job. One claim is about them all.
+-- says of certain events, of the printed job and of the filter at every percentage.
 use Prim.Native.Nat.{ℕ}
 use mathlib.Core.Path.{_≡_, refl}
 use mathlib.Core.List.{List, [], _∷_, _++_, map}
@@ -153,15 +153,6 @@ paper1 =
           ∷ []
           ) ∷ [];
     }
-    -- "50 forces nothing; 60 forces line 1 only; 80 forces both; 31 first comes at 81": every percentage from 0 to 100
-    ∷ record {
-      requests = sequence (filtered tableA allOpen) 0 101;
-      answers =
-          replicate 51 (answered (0 ∷ 0 ∷ 0 ∷ []))
-          ++ replicate 10 (answered (1 ∷ 0 ∷ 1 ∷ []))
-          ++ replicate 20 (answered (2 ∷ 1 ∷ 1 ∷ []))
-          ++ replicate 20 (refused 31 0);
-    }
     ∷ []
 
 -- The starred cases are twelve
@@ -173,3 +164,15 @@ twelve = refl
 pub starredHold : map (λ c. map answerTo (c .requests)) (starred ++ paper1) ≡ map (λ c. c .answers) (starred ++ paper1)
 unfolding starred paper1 answerTo tableA certainA tableB allOpen numbers wordAt sequence variableCount recordCount variableOf recordOf tableOf recordAt root isChoice choiceCount scaleOf scale walk truth settlings weight sum total scoreFrom score assignments every implies completions openTaken openCount takenCount cost isOpen leaves upperBound derivative derivatives passes noneOf passing forced forcedPlan countOf forcedCount takesFirst ranksBefore better firstRanked isCandidate select bestPlan beaten goesBack lowestOpen visit visited visitCount placeZero firstPlace jobFault lengthFault isHeading headingFault countFault isVariableWord variableFault choiceFault scaleFault positionOf isChild isRecordWord recordFault isMonotoneAt monotoneFault planLengthFault planMarkFault fullPlanFault percentFault budgetFault bufferFault jobChecks tableChecks scoreChecks sweepChecks filterChecks searchChecks checked written reading readOutcome scoreOutcome sweepOutcome sweepBuffer filtering filterOutcome filterBuffer searching searchOutcome searchBuffer digits decimal refusedWord choicesWord scaleWord kitsWord scoreWord visitsWord takeWord leftWord line markLines refusalText planText searchText jobOutcome programOutcome printout
 starredHold = refl
+
+-- What the filter answers for table A at 0, 1 .. 100 percent. Paper 1: "50 forces nothing; 60 forces line 1 only; 80 forces both; 31 first comes at 81"
+unfoldable pub everyPercentage : List (Outcome (List ℕ))
+everyPercentage =
+    replicate 51 (answered (0 ∷ 0 ∷ 0 ∷ []))
+    ++ replicate 10 (answered (1 ∷ 0 ∷ 1 ∷ []))
+    ++ replicate 20 (answered (2 ∷ 1 ∷ 1 ∷ []))
+    ++ replicate 20 (refused 31 0)
+
+pub percentagesHold : map answerTo (sequence (filtered tableA allOpen) 0 101) ≡ everyPercentage
+unfolding everyPercentage answerTo tableA allOpen numbers wordAt sequence variableCount recordCount variableOf recordOf tableOf recordAt root isChoice choiceCount scaleOf scale walk truth settlings weight sum total scoreFrom score assignments every implies completions isOpen leaves passes noneOf passing forced forcedPlan countOf forcedCount placeZero firstPlace lengthFault isHeading headingFault countFault isVariableWord variableFault choiceFault scaleFault positionOf isChild isRecordWord recordFault isMonotoneAt monotoneFault planLengthFault planMarkFault percentFault bufferFault tableChecks filterChecks checked reading filtering filterOutcome
+percentagesHold = refl
