@@ -142,7 +142,7 @@ paper1 =
           ∷ []
           ) ∷ [];
     }
-    -- "kits 1 with 60 gives line 1", in five visits: the top of the visit before the last is the least score that passes
+    -- "kits 1 with 60 gives line 1"; the visits, - -, T -, T T, L - and L T, are counted by hand. The top of the fourth is 12, the least score that passes
     ∷ record {
       requests = printed (0x50 ∷ 0x40 ∷ 0x00 ∷ 0x3C ∷ tableA) ∷ [];
       answers = answered (
