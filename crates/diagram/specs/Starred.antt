@@ -1,9 +1,9 @@
 -- Document 01, "Tried at the counter": the twelve starred cases, five of which have another answer since paper 1 of document 02, and what else that paper
 -- says of certain events, of the printed job and of the filter at every percentage.
-use Prim.Native.Nat.{ℕ}
+use Prim.Native.Nat.{ℕ, _+_}
 use mathlib.Core.Path.{_≡_, refl}
 use mathlib.Core.List.{List, [], _∷_, _++_, map}
-use lib.ListN.{length, replicate}
+use lib.ListN.{length, take, drop, replicate}
 use Rattle.diagram.specs.Words.{wordAt}
 use Rattle.diagram.specs.Table.{sequence, variableCount, recordCount, variableOf, recordOf, tableOf, recordAt, root, isChoice, choiceCount, scaleOf, scale}
 use Rattle.diagram.specs.Score.{walk, truth, settlings, weight, sum, total, scoreFrom, score, assignments, every, implies}
@@ -29,19 +29,9 @@ tableA =
     ∷ 0x40 ∷ 0x00 ∷ 0x20 ∷ 0x03
     ∷ []
 
--- Table A with certain events, 2/2 and 10/10
+-- Table A with certain events: words 2 and 4 are those of 2/2 and 10/10
 unfoldable pub certainA : List ℕ
-certainA =
-    0x11 ∷ 0x00 ∷ 0x20 ∷ 0x00
-    ∷ 0x20 ∷ 0x00 ∷ 0x00 ∷ 0x00
-    ∷ 0x30 ∷ 0x40 ∷ 0x10 ∷ 0x02
-    ∷ 0x20 ∷ 0x80 ∷ 0x00 ∷ 0x00
-    ∷ 0x30 ∷ 0xC0 ∷ 0x50 ∷ 0x0A
-    ∷ 0x40 ∷ 0xC0 ∷ 0x08 ∷ 0x00
-    ∷ 0x40 ∷ 0x80 ∷ 0x10 ∷ 0x00
-    ∷ 0x40 ∷ 0x40 ∷ 0x08 ∷ 0x03
-    ∷ 0x40 ∷ 0x00 ∷ 0x20 ∷ 0x03
-    ∷ []
+certainA = take 8 tableA ++ 0x30 ∷ 0x40 ∷ 0x10 ∷ 0x02 ∷ take 4 (drop 12 tableA) ++ 0x30 ∷ 0xC0 ∷ 0x50 ∷ 0x0A ∷ drop 20 tableA
 
 -- "Table B is 10801000 20000000 3040380A 40400800 40001000: one line, one event of 7/10." Its last word is given apart.
 unfoldable pub tableB : List ℕ → List ℕ
@@ -123,6 +113,16 @@ starred =
     }
     ∷ []
 
+-- What the program prints of table A where one kit takes line 1, with the visits, a digit, given apart: choices 2 scale 20, kits 1 score 12 visits .., 0 left,
+-- 1 take
+unfoldable pub lineOne : (visits : ℕ) → List ℕ
+lineOne visits =
+    99 ∷ 104 ∷ 111 ∷ 105 ∷ 99 ∷ 101 ∷ 115 ∷ 32 ∷ 50 ∷ 32 ∷ 115 ∷ 99 ∷ 97 ∷ 108 ∷ 101 ∷ 32 ∷ 50 ∷ 48 ∷ 10
+    ∷ 107 ∷ 105 ∷ 116 ∷ 115 ∷ 32 ∷ 49 ∷ 32 ∷ 115 ∷ 99 ∷ 111 ∷ 114 ∷ 101 ∷ 32 ∷ 49 ∷ 50 ∷ 32 ∷ 118 ∷ 105 ∷ 115 ∷ 105 ∷ 116 ∷ 115 ∷ 32 ∷ (48 + visits) ∷ 10
+    ∷ 48 ∷ 32 ∷ 108 ∷ 101 ∷ 102 ∷ 116 ∷ 10
+    ∷ 49 ∷ 32 ∷ 116 ∷ 97 ∷ 107 ∷ 101 ∷ 10
+    ∷ []
+
 -- Paper 1 of document 02
 unfoldable pub paper1 : List Case
 paper1 =
@@ -131,28 +131,10 @@ paper1 =
       requests = filtered certainA allOpen 100 ∷ searched certainA allOpen 1 100 ∷ [];
       answers = answered (0 ∷ 0 ∷ 0 ∷ []) ∷ answered (20 ∷ 1 ∷ 2 ∷ []) ∷ [];
     }
-    -- "The printed job keeps its plan and shows 6 visits": choices 2 scale 20, kits 1 score 12 visits 6, 0 left, 1 take
-    ∷ record {
-      requests = printed (0x50 ∷ 0x40 ∷ 0x00 ∷ 0x32 ∷ tableA) ∷ [];
-      answers = answered (
-          99 ∷ 104 ∷ 111 ∷ 105 ∷ 99 ∷ 101 ∷ 115 ∷ 32 ∷ 50 ∷ 32 ∷ 115 ∷ 99 ∷ 97 ∷ 108 ∷ 101 ∷ 32 ∷ 50 ∷ 48 ∷ 10
-          ∷ 107 ∷ 105 ∷ 116 ∷ 115 ∷ 32 ∷ 49 ∷ 32 ∷ 115 ∷ 99 ∷ 111 ∷ 114 ∷ 101 ∷ 32 ∷ 49 ∷ 50 ∷ 32 ∷ 118 ∷ 105 ∷ 115 ∷ 105 ∷ 116 ∷ 115 ∷ 32 ∷ 54 ∷ 10
-          ∷ 48 ∷ 32 ∷ 108 ∷ 101 ∷ 102 ∷ 116 ∷ 10
-          ∷ 49 ∷ 32 ∷ 116 ∷ 97 ∷ 107 ∷ 101 ∷ 10
-          ∷ []
-          ) ∷ [];
-    }
+    -- "The printed job keeps its plan and shows 6 visits"
+    ∷ record { requests = printed (0x50 ∷ 0x40 ∷ 0x00 ∷ 0x32 ∷ tableA) ∷ []; answers = answered (lineOne 6) ∷ [] }
     -- "kits 1 with 60 gives line 1"; the visits, - -, T -, T T, L - and L T, are counted by hand. The top of the fourth is 12, the least score that passes
-    ∷ record {
-      requests = printed (0x50 ∷ 0x40 ∷ 0x00 ∷ 0x3C ∷ tableA) ∷ [];
-      answers = answered (
-          99 ∷ 104 ∷ 111 ∷ 105 ∷ 99 ∷ 101 ∷ 115 ∷ 32 ∷ 50 ∷ 32 ∷ 115 ∷ 99 ∷ 97 ∷ 108 ∷ 101 ∷ 32 ∷ 50 ∷ 48 ∷ 10
-          ∷ 107 ∷ 105 ∷ 116 ∷ 115 ∷ 32 ∷ 49 ∷ 32 ∷ 115 ∷ 99 ∷ 111 ∷ 114 ∷ 101 ∷ 32 ∷ 49 ∷ 50 ∷ 32 ∷ 118 ∷ 105 ∷ 115 ∷ 105 ∷ 116 ∷ 115 ∷ 32 ∷ 53 ∷ 10
-          ∷ 48 ∷ 32 ∷ 108 ∷ 101 ∷ 102 ∷ 116 ∷ 10
-          ∷ 49 ∷ 32 ∷ 116 ∷ 97 ∷ 107 ∷ 101 ∷ 10
-          ∷ []
-          ) ∷ [];
-    }
+    ∷ record { requests = printed (0x50 ∷ 0x40 ∷ 0x00 ∷ 0x3C ∷ tableA) ∷ []; answers = answered (lineOne 5) ∷ [] }
     ∷ []
 
 -- The starred cases are twelve
@@ -162,7 +144,7 @@ twelve = refl
 
 -- Each request has the answer that document 01 gives, or paper 1 of document 02
 pub starredHold : map (λ c. map answerTo (c .requests)) (starred ++ paper1) ≡ map (λ c. c .answers) (starred ++ paper1)
-unfolding starred paper1 answerTo tableA certainA tableB allOpen numbers wordAt sequence variableCount recordCount variableOf recordOf tableOf recordAt root isChoice choiceCount scaleOf scale walk truth settlings weight sum total scoreFrom score assignments every implies completions openTaken openCount takenCount cost isOpen leaves upperBound derivative derivatives passes noneOf passing forced forcedPlan countOf forcedCount takesFirst ranksBefore better firstRanked isCandidate select bestPlan beaten goesBack lowestOpen visit visited visitCount placeZero firstPlace jobFault lengthFault isHeading headingFault countFault isVariableWord variableFault choiceFault scaleFault positionOf isChild isRecordWord recordFault isMonotoneAt monotoneFault planLengthFault planMarkFault fullPlanFault percentFault budgetFault bufferFault jobChecks tableChecks scoreChecks sweepChecks filterChecks searchChecks checked written reading readOutcome scoreOutcome sweepOutcome sweepBuffer filtering filterOutcome filterBuffer searching searchOutcome searchBuffer digits decimal refusedWord choicesWord scaleWord kitsWord scoreWord visitsWord takeWord leftWord line markLines refusalText planText searchText jobOutcome programOutcome printout
+unfolding starred paper1 lineOne answerTo tableA certainA tableB allOpen numbers wordAt sequence variableCount recordCount variableOf recordOf tableOf recordAt root isChoice choiceCount scaleOf scale walk truth settlings weight sum total scoreFrom score assignments every implies completions openTaken openCount takenCount cost isOpen leaves upperBound derivative derivatives passes noneOf passing forced forcedPlan countOf forcedCount takesFirst ranksBefore better firstRanked isCandidate select bestPlan beaten goesBack lowestOpen visit visited visitCount placeZero firstPlace jobFault lengthFault isHeading headingFault countFault isVariableWord variableFault choiceFault scaleFault positionOf isChild isRecordWord recordFault isMonotoneAt monotoneFault planLengthFault planMarkFault fullPlanFault percentFault budgetFault bufferFault jobChecks tableChecks scoreChecks sweepChecks filterChecks searchChecks checked written reading readOutcome scoreOutcome sweepOutcome sweepBuffer filtering filterOutcome filterBuffer searching searchOutcome searchBuffer digits decimal refusedWord choicesWord scaleWord kitsWord scoreWord visitsWord takeWord leftWord line markLines refusalText planText searchText jobOutcome programOutcome printout
 starredHold = refl
 
 -- What the filter answers for table A at 0, 1 .. 100 percent. Paper 1: "50 forces nothing; 60 forces line 1 only; 80 forces both; 31 first comes at 81"
