@@ -5,7 +5,7 @@ use std::fmt::Debug;
 
 use crate::jigbalo::{self, Refusal};
 use crate::plain::{self, Form};
-use crate::tables::{self, Draft, Random, Variable};
+use crate::tables::{self, Draft, Random};
 
 /// How often each service answered (0) or refused with a number.
 pub type Counts = BTreeMap<&'static str, BTreeMap<u64, u64>>;
@@ -26,7 +26,9 @@ fn made(r: &mut Random) -> Request {
         5..9 => tables::small(r, false),
         _ => tables::small(r, true),
     };
-    let choices = draft.variables.iter().filter(|v| matches!(v, Variable::Choice)).count();
+    let draft = if r.one_in(2) { draft } else { draft.with_kits(r) };
+    let own = draft.kits();
+    let choices = own.len();
     let (few, many) = (choices <= 7, r.one_in(200));
     let mark = |r: &mut Random| {
         if few || many || r.one_in(3) { r.below(3) as u8 } else { r.between(1, 2) as u8 }
@@ -42,7 +44,17 @@ fn made(r: &mut Random) -> Request {
     let file = draft.file();
     let file = if r.one_in(3) { tables::damaged(r, file) } else { file };
     let size = if r.one_in(24) { r.below(22) as usize } else { choices };
-    let kits = if r.one_in(24) { [21, 22, 1 << 16, u32::MAX][r.below(4) as usize] } else { r.below(21) as u32 };
+    // what the plan and some of its open lines cost, or one beside it
+    let mut cost = 0;
+    for (&mark, kits) in plan.iter().zip(own) {
+        cost += if mark == 1 || mark == 0 && r.one_in(2) { kits } else { 0 };
+    }
+    let kits = match r.below(24) {
+        0 => [10_021, 10_022, 1 << 16, u32::MAX][r.below(4) as usize],
+        1 => 10_020,
+        2..8 => r.below(21) as u32,
+        _ => (cost + r.below(3)).saturating_sub(1) as u32,
+    };
     let percent = if r.one_in(24) { [101, 102, 1 << 16, u32::MAX][r.below(4) as usize] } else { r.below(101) as u32 };
     Request { file, plan, kits, percent, size }
 }

@@ -31,9 +31,10 @@ impl Random {
     }
 }
 
+/// A choice with its kits, or a chance with a and b.
 #[derive(Clone, Copy)]
 pub enum Variable {
-    Choice,
+    Choice(u64),
     Chance(u64, u64),
 }
 
@@ -51,11 +52,35 @@ impl Draft {
     pub fn file(&self) -> Vec<u8> {
         let heading = word(1, self.variables.len(), self.records.len(), 0);
         let variables = self.variables.iter().enumerate().map(|(i, v)| match *v {
-            Variable::Choice => word(2, i, 0, 0),
+            Variable::Choice(kits) => word(2, i, 0, kits as usize - 1),
             Variable::Chance(a, b) => word(3, i, a as usize, b as usize),
         });
         let records = self.records.iter().map(|&(p, high, low)| word(4, p, high, low));
         std::iter::once(heading).chain(variables).chain(records).flat_map(|w| w.to_be_bytes()).collect()
+    }
+
+    /// The kits of each line.
+    pub fn kits(&self) -> Vec<u64> {
+        let kits = |v: &Variable| match *v {
+            Variable::Choice(kits) => Some(kits),
+            _ => None,
+        };
+        self.variables.iter().filter_map(kits).collect()
+    }
+
+    /// The table with other kits: few, many, or both, now and then one too many for a line.
+    pub fn with_kits(mut self, r: &mut Random) -> Draft {
+        let most = [3, 6, 501][r.below(3) as usize];
+        for v in &mut self.variables {
+            if let Variable::Choice(kits) = v {
+                *kits = match r.below(300) {
+                    0 => 502,
+                    1..30 => r.between(499, 501),
+                    _ => r.between(1, most),
+                };
+            }
+        }
+        self
     }
 
     /// How many records the root leads to.
@@ -84,7 +109,7 @@ pub fn small(r: &mut Random, monotone: bool) -> Draft {
         let b = if r.one_in(8) { r.between(1, 1000) } else { r.between(1, 12) };
         Variable::Chance(r.between(0, b), b)
     };
-    let variables = (0..v).map(|_| if r.one_in(2) { Variable::Choice } else { share(r) }).collect();
+    let variables = (0..v).map(|_| if r.one_in(2) { Variable::Choice(1) } else { share(r) }).collect();
     let mut draft = Draft { variables, records: Vec::new() };
     let mut truths = vec![0u128, u128::MAX];
     let n = if r.one_in(6) { r.between(1, 60) } else { r.between(1, 14) };
@@ -97,7 +122,7 @@ pub fn small(r: &mut Random, monotone: bool) -> Draft {
         let below: Vec<usize> = (0..k as usize + 2).filter(|&m| draft.position(m) > p).collect();
         let pick = |r: &mut Random| below[r.below(below.len() as u64) as usize];
         let (mut high, mut low) = (pick(r), pick(r));
-        if monotone && matches!(draft.variables[p], Variable::Choice) && truths[low] & !truths[high] != 0 {
+        if monotone && matches!(draft.variables[p], Variable::Choice(_)) && truths[low] & !truths[high] != 0 {
             (high, low) = (low, high);
             if truths[low] & !truths[high] != 0 {
                 if r.one_in(2) { high = 1 } else { low = 0 }
@@ -122,7 +147,7 @@ pub fn limits(r: &mut Random) -> Draft {
         })
         .collect();
     for _ in 0..choices {
-        variables[r.below(v as u64) as usize] = Variable::Choice;
+        variables[r.below(v as u64) as usize] = Variable::Choice(1);
     }
     let mut draft = Draft { variables, records: Vec::new() };
     let n = r.between(200, 255) as usize;
@@ -134,9 +159,9 @@ pub fn limits(r: &mut Random) -> Draft {
         let (high, low) = (pick(r), pick(r));
         // an end as one child is monotone whatever the other is
         let record = match draft.variables[p] {
-            Variable::Choice if r.one_in(200) => (p, high, low),
-            Variable::Choice if r.one_in(2) => (p, 1, low),
-            Variable::Choice => (p, high, 0),
+            Variable::Choice(_) if r.one_in(200) => (p, high, low),
+            Variable::Choice(_) if r.one_in(2) => (p, 1, low),
+            Variable::Choice(_) => (p, high, 0),
             _ => (p, high, low),
         };
         draft.records.push(record);
@@ -187,7 +212,7 @@ pub fn damaged(r: &mut Random, mut file: Vec<u8>) -> Vec<u8> {
 /// two records for each line and each count of lines that matters.
 pub fn threshold(lines: usize, needed: usize, a: u64, b: u64) -> Draft {
     let variables =
-        (0..2 * lines).map(|p| if p % 2 == 0 { Variable::Choice } else { Variable::Chance(a, b) }).collect();
+        (0..2 * lines).map(|p| if p % 2 == 0 { Variable::Choice(1) } else { Variable::Chance(a, b) }).collect();
     let mut draft = Draft { variables, records: Vec::new() };
     // the nodes by count, of the line below
     let mut below: Vec<usize> = (0..=lines).map(|count| (count >= needed) as usize).collect();
@@ -216,7 +241,7 @@ pub fn layered(r: &mut Random) -> Draft {
     let mut variables: Vec<Variable> = (0..2 * lines)
         .map(|p| {
             let b = r.between(2, 6);
-            if p % 2 == 0 { Variable::Choice } else { Variable::Chance(r.between(1, b - 1), b) }
+            if p % 2 == 0 { Variable::Choice(1) } else { Variable::Chance(r.between(1, b - 1), b) }
         })
         .collect();
     for p in 0..2 * lines {

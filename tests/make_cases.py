@@ -68,19 +68,19 @@ def filters(label, data, plan, percents, size=None):
         case(f"{label}, {percent}", "f", text_of(data, marks_of(plan), f"{size}, {percent}"), show_filter(data, plan, percent, size, ways))
 
 
-def searches(label, data, plan, jobs, size=None):
+def searches(label, data, plan, jobs, size=None, ways=None):
     data = file_of(data)
     size = len(plan) if size is None else size
-    ways = ways_of(data, plan)
+    ways = ways or ways_of(data, plan)
     for kits, percent in jobs:
         case(f"{label}, kits {kits}, {percent}", "p", text_of(data, marks_of(plan), f"{size}, {percent}, {kits}"),
              show_search(data, plan, kits, percent, size, ways))
 
 
-def runs(label, data):
+def runs(label, data, ways=None):
     """A job of the program: all bytes of its standard input. What it prints stands on lines of its own."""
     data = file_of(data)
-    case(label, "j", text_of(data), "\n" + printout(data))
+    case(label, "j", text_of(data), "\n" + printout(data, ways))
 
 
 def choice(p):
@@ -513,7 +513,7 @@ def on_opened_tables(chosen):
         case(f"opened, {label}", service.upper(), text, answer)
 
 
-def first_refusals():
+def first_refusals(services):
     """Of each service and number of a refusal the first two cases."""
     found = {}
     for c in services:
@@ -523,6 +523,16 @@ def first_refusals():
     return [c for of_one in found.values() for c in of_one[:2]]
 
 
+def answered(services):
+    return [c for c in services if not c[3].startswith(" refused")]
+
+
+# Which of these requests are made of opened tables stays as it was before paper 2: those that are answered since then are not chosen, and two that
+# were refused with 24 are.
+answered_since = [f"word {i} with Q 0 and R 1" for i in (1, 3)] + [f"damaged {i}" for i in (41, 78, 107)]
+answered_since += [f"search, limits, kits {kits}, {percent}" for kits, percent in ((64, 0), (255, 50), (256, 50))]
+refused_before = [f"search, plan 00 and {size} places, kits 21, 100" for size in (0, 1)]
+
 services = [c for c in cases if c[1] != "j"]
 printed = [text_of(bytes_of(t)) for t in (A, B)]
 of_both = [c for c in services if c[2].split(" | ")[0] in printed]
@@ -530,9 +540,10 @@ note("Requests of opened tables, of A and B")
 on_opened_tables(c for c in of_both if c[1] in "rsw")
 on_opened_tables([c for c in of_both if c[1] in "fp"][::7])
 note("Requests of opened tables, of each service every refusal")
-on_opened_tables(first_refusals())
+on_opened_tables(first_refusals(services))
+on_opened_tables(c for c in services if c[0] in refused_before)
 note("Requests of opened tables that are answered")
-on_opened_tables([c for c in services if not c[3].startswith(" refused")][::20])
+on_opened_tables([c for c in answered(services) if c[0] not in answered_since][::20])
 
 note("A table that is hard for check 18 (hard_table.rs). Every record stands for the last event, so that all plans score the same and nothing is cut")
 hard = bytes.fromhex(open("hard_table.hex").read())
@@ -542,9 +553,9 @@ scale = prod(b for _, b in shares)
 alike = scale // shares[-1][1] * shares[-1][0]
 
 
-def uncut(n, kits):
-    """The visits with n open lines and such room where no branch is cut."""
-    return 1 if n == 0 or kits < 0 else 1 + uncut(n - 1, kits - 1) + uncut(n - 1, kits)
+def uncut(own, kits):
+    """The visits with open lines of these kits and such room where no branch is cut."""
+    return 1 if own == [] or kits < 0 else 1 + uncut(own[1:], kits - own[0]) + uncut(own[1:], kits)
 
 
 case("hard, read", "r", text_of(hard), f" table 60 254 20 {scale}")
@@ -555,10 +566,234 @@ for plan in ([0] * 20, [1, 0, 2, 0] * 5):
     case(f"hard, sweep {marks_of(plan)}", "w", text_of(hard, marks_of(plan), "20"), f" top {alike}, drops" + " 0" * 20)
     case(f"hard, filter {marks_of(plan)}, 42", "f", text_of(hard, marks_of(plan), "20, 42"), f" forced 0, plan{numbers}")
     case(f"hard, filter {marks_of(plan)}, 43", "f", text_of(hard, marks_of(plan), "20, 43"), " refused 31 0, plan" + " 7" * 20)
-case("hard, search, kits 3", "p", text_of(hard, "0" * 20, "20, 42, 3"), f" score {alike} visits {uncut(20, 3)}, plan" + " 2" * 20)
+case("hard, search, kits 3", "p", text_of(hard, "0" * 20, "20, 42, 3"), f" score {alike} visits {uncut([1] * 20, 3)}, plan" + " 2" * 20)
 case("hard, search, kits 20", "p", text_of(hard, "0" * 20, "20, 42, 20"), f" score {alike} visits {2 ** 21 - 1}, plan" + " 2" * 20)
 case("hard, job", "j", text_of(bytes_of([word(5, 3, 0, 42)]) + hard),
-     f"\nchoices 20 scale {scale}\nkits 0 score {alike} visits {uncut(20, 3)}\n" + "".join(f"{i} left\n" for i in range(20)))
+     f"\nchoices 20 scale {scale}\nkits 0 score {alike} visits {uncut([1] * 20, 3)}\n" + "".join(f"{i} left\n" for i in range(20)))
+
+before_kits = len(cases)
+note("Long spans, which take several kits (paper 2). R of a choice word, 14 above 500, and Q, 14 above 0")
+
+
+def with_kits(t, kits):
+    """The table with these kits of its lines, by choice number."""
+    kits = iter(kits)
+    return [w & ~2047 | next(kits) - 1 if w >> 28 == 2 else w for w in t]
+
+
+def job_of(kits, percent):
+    """A job word; its P and Q are such that P plus 64 times Q is the kits."""
+    return word(5, kits % 64, kits // 64, percent)
+
+
+for i in (1, 3):
+    p = fields(A[i])[1]
+    for r in (2, 255, 256, 499, 500, 501, 502, 511, 512, 756, 1000, 1023, 1024, 1524, 2047):
+        reads(f"word {i} with R {r}", put(A, i, word(2, p, 0, r)))
+    for q in (1, 2, 64, 1024, 2047):
+        for r in (0, 1, 500, 501):
+            reads(f"word {i} with Q {q} and R {r}, kits", put(A, i, word(2, p, q, r)))
+    wrong = put(A, i, word(2, p, 0, 501))
+    scores(f"word {i} with R 501, score", wrong, [0, 1])
+    sweeps(f"word {i} with R 501, sweep", wrong, [0, 0, 0])
+    filters(f"word {i} with R 501, filter", wrong, [0, 3], (101,))
+    searches(f"word {i} with R 501, search", wrong, [0, 0], [(10021, 101), (2, 50)], 1)
+    runs(f"word {i} with R 501, job", [job_of(10021, 101)] + wrong)
+reads("R 501 twice", put(put(A, 1, word(2, 0, 0, 501)), 3, word(2, 2, 0, 501)))
+reads("R 500 and then R 501", put(put(A, 1, word(2, 0, 0, 500)), 3, word(2, 2, 0, 501)))
+reads("b of 501 and of 1000", table([chance(0, 501, 501), chance(1, 500, 1000)], last))
+reads("14 by R before 15", table([choice(i) for i in range(20)] + [word(2, 20, 0, 501)], last))
+reads("15 with kits", with_kits(table([choice(i) for i in range(21)], last), [501] * 21))
+reads("14 by R before 16 and 17", table([chance(i, 1, 1000) for i in range(9)] + [word(2, 9, 0, 501)], [0]))
+reads("18 with kits", with_kits(put(B, 4, 0x40000002), [501]))
+
+note("Reading, score, sweep and filter do not look at the kits")
+rivers = {"1 and 501": with_kits(A, [1, 501]), "501 and 1": with_kits(A, [501, 1]), "3 and 2": with_kits(A, [3, 2])}
+for label, t in rivers.items():
+    reads(f"A, {label}", t)
+    for i in (1, 2):
+        for j in (1, 2):
+            scores(f"A, {label}, {i} {j}", t, [i, j])
+    for plan in ([0, 0], [0, 1], [2, 0]):
+        sweeps(f"sweep A, {label}, {marks_of(plan)}", t, plan)
+        filters(f"filter A, {label}, {marks_of(plan)}", t, plan, (0, 49, 50, 51, 59, 60, 61, 79, 80, 81, 100))
+
+note("Table A with long spans, and kits beside every sum")
+for label, t in rivers.items():
+    own = [fields(t[i])[3] + 1 for i in (1, 3)]
+    beside = sorted({max(0, x + y) for x in (0, own[0], own[1], sum(own)) for y in (-1, 0, 1)})
+    searches(f"search A, {label}", t, [0, 0], [(kits, percent) for kits in beside for percent in (0, 50, 60, 80, 81)])
+    for plan in ([0, 1], [0, 2], [1, 0], [2, 0], [1, 1], [2, 2]):
+        searches(f"search A, {label}, {marks_of(plan)}", t, plan, [(kits, 0) for kits in beside])
+    for kits in beside:
+        runs(f"job A, {label}, kits {kits}", [job_of(kits, 50)] + t)
+
+note("A river span of 501 kits")
+river = with_kits(B, [501])
+for i in (0, 1, 2):
+    searches(f"river {i}", river, [i], [(kits, percent) for kits in (0, 1, 245, 499, 500, 501, 502, 10020) for percent in (0, 70, 71)])
+for kits in (0, 1, 499, 500, 501, 502, 10020):
+    for percent in (0, 70):
+        runs(f"river, kits {kits}, percent {percent}", [job_of(kits, percent)] + river)
+
+note("The same score, the cheaper plan with more lines, the same sums, and sums against choice numbers")
+
+
+def network(n, ways, chance_too=True):
+    """Some lines, and after them an event of a half: it holds, and all lines of one of the ways are taken."""
+    records, nodes = [], {}
+
+    def node(p, rest):
+        if frozenset() in rest:
+            return node_of_event() if chance_too else 1
+        if not rest:
+            return 0
+        if (p, rest) not in nodes:
+            hi, lo = node(p + 1, frozenset(way - {p} for way in rest)), node(p + 1, frozenset(way for way in rest if p not in way))
+            records.append(record(p, hi, lo))
+            nodes[p, rest] = len(records) + 1
+        return nodes[p, rest]
+
+    def node_of_event():
+        if n not in nodes:
+            records.append(record(n, 1, 0))
+            nodes[n] = len(records) + 1
+        return nodes[n]
+
+    node(0, frozenset(map(frozenset, ways)))
+    return table([choice(i) for i in range(n)] + [chance(n, 1, 2)] * chance_too, records)
+
+
+one_or_two, two_or_one = network(3, [{0}, {1, 2}]), network(3, [{0, 1}, {2}])
+ties = (
+    ("one or two", one_or_two, ((5, 2, 2), (4, 2, 2), (3, 2, 2), (501, 250, 250), (501, 250, 251), (501, 251, 251), (501, 1, 1))),
+    ("two or one", two_or_one, ((2, 2, 5), (2, 2, 4), (2, 2, 3), (250, 250, 501), (250, 251, 501), (251, 251, 501), (1, 1, 501))),
+    ("any line", any_line, ((1, 2, 3), (3, 2, 1), (2, 1, 3), (2, 2, 1), (2, 1, 1), (1, 1, 2), (501, 501, 500), (500, 501, 501))),
+    ("two lines of three", two_lines, ((1, 2, 3), (3, 2, 1), (2, 3, 1), (2, 2, 1), (1, 1, 2), (501, 500, 499), (499, 501, 500))),
+    ("two pairs", network(4, [{0, 3}, {1, 2}]), ((1, 1, 1, 1), (2, 1, 2, 1), (1, 2, 2, 3), (1, 2, 1, 3), (500, 1, 501, 1), (501, 1, 500, 1))),
+    ("three or two or one", network(6, [{0, 1, 2}, {3, 4}, {5}]), ((1, 1, 1, 1, 2, 3), (2, 1, 1, 1, 2, 3), (2, 1, 1, 1, 3, 3), (1, 1, 1, 1, 1, 3))),
+)
+for label, t, kits_of_lines in ties:
+    for own in kits_of_lines:
+        name = f"ties, {label}, {' '.join(map(str, own))}"
+        near = sorted({x + y for x in (min(own), max(own), sum(own)) for y in (-1, 0)} | {min(own) + max(own)})
+        searches(name, with_kits(t, own), [0] * len(own), [(kits, 0) for kits in near] + [(max(own), 50)])
+        searches(f"{name}, one taken", with_kits(t, own), [0, 1] + [0] * (len(own) - 2), [(own[1] - 1, 0), (sum(own), 50)])
+        runs(name, [job_of(sum(own), 50)] + with_kits(t, own))
+
+note("Twenty lines, first of 501 kits, 10,020 in all, each of which is needed")
+dear = with_kits(network(20, [set(range(20))], False), [501] * 20)
+ways = ways_of(bytes_of(dear), [0] * 20)
+searches("twenty of 501", dear, [0] * 20, [(kits, percent) for kits in (10020, 10019, 9519) for percent in (1, 100)], ways=ways)
+for kits in (10020, 10019):
+    runs(f"twenty of 501, kits {kits}", [job_of(kits, 100)] + dear, ways)
+del ways
+for taken in (16, 19, 20):
+    plan = [1] * taken + [0] * (20 - taken)
+    searches(f"twenty of 501, {taken} taken", dear, plan, [(kits, percent) for kits in (501 * taken - 1, 501 * taken, 10019, 10020) for percent in (0, 100)])
+searches("twenty of 501, spread", dear, [0, 1, 1, 1, 2] * 4, [(kits, 0) for kits in (6011, 6012, 6512, 6513, 8015, 8016)])
+own = [5, 501, 20, 30, 100, 1, 7, 8, 499, 2, 50, 51, 7, 8]
+couples = with_kits(network(14, [{i, i + 1} for i in range(0, 14, 2)]), own)
+searches("seven couples", couples, [0] * 14, [(kits, 50) for kits in (14, 15, 50)])
+for plan in ([0, 0] * 3 + [2, 0] + [0, 0] * 2 + [0, 2], [0, 0, 2, 2] * 3 + [0, 0], [1, 2, 0, 0] * 3 + [0, 0], [2] * 8 + [0] * 6):
+    taken = sum(k for k, m in zip(own, plan) if m == 1)
+    searches(f"seven couples, {marks_of(plan)}", couples, plan, [(taken + kits, 50) for kits in (14, 15, 50, 101, 501, 505, 506)] + [(10020, 50)])
+
+note("The hard table with kits")
+hard_plan = [0, 1, 0, 2] * 5
+for own, kits in (([501] * 20, 1503), (list(range(20, 0, -1)), 40)):
+    t = with_kits(words_of(hard), own)
+    case(f"hard, search, line 0 of {own[0]}, kits {kits}", "p", text_of(bytes_of(t), "0" * 20, f"20, 42, {kits}"),
+         f" score {alike} visits {uncut(own, kits)}, plan" + " 2" * 20)
+    kits += sum(k for k, m in zip(own, hard_plan) if m == 1)
+    case(f"hard, search, line 0 of {own[0]}, five taken, kits {kits}", "p", text_of(bytes_of(t), marks_of(hard_plan), f"20, 42, {kits}"),
+         f" score {alike} visits {uncut([k for k, m in zip(own, hard_plan) if m == 0], kits - sum(own[1::4]))}, plan" + " 2 1 2 2" * 5)
+
+note("The lines that the plan takes already, which cost more than the kits, and as much")
+several = with_kits(network(4, [{0, 1}, {2, 3}, {1, 3}]), [7, 2, 501, 3])
+for plan in ([1, 0, 0, 0], [0, 0, 1, 0], [1, 0, 1, 0], [1, 2, 1, 0], [1, 1, 0, 2], [1, 1, 2, 2], [2, 0, 1, 1], [1, 1, 1, 1]):
+    own = sum(k for k, m in zip((7, 2, 501, 3), plan) if m == 1)
+    searches(f"already taken, {marks_of(plan)}", several, plan, [(own + more, percent) for more in (-1, 0, 1, 2, 3, 5) for percent in (0, 50)])
+
+note("Kits up to 10,020, 24 above, of any size")
+most = (10019, 10020, 10021, 10022, 10240, 16383, 16384, 16385, 32768, 65535, 65536, 65537, 65556, 75556, 131071, 131072, 16777216)
+most += (2147483647, 2147483648, 4294967294, 4294967295)
+for label, t in (("A", A), ("A, 3 and 2", rivers["3 and 2"])):
+    searches(f"kits, {label}", t, [0, 0], [(kits, 50) for kits in most])
+searches("kits and percent", A, [0, 0], [(kits, percent) for kits in (10020, 10021, 4294967295) for percent in (100, 101, 4294967295)])
+searches("kits, no choice", table([chance(0, 3, 10)], last), [], [(kits, 0) for kits in (0, 1, 10020, 10021, 4294967295)])
+for plan, size in (([0], 2), ([3, 0], 2), ([0, 0], 1), ([0, 0], 3)):
+    searches(f"kits, plan {marks_of(plan)} and {size} places", A, plan, [(10020, 100), (10021, 100), (10021, 101), (65536, 0)], size)
+
+note("Job words with Q, kits P plus 64 times Q")
+job_fields = [(p, q) for p in (0, 1, 63) for q in (0, 1, 2, 31, 32, 63, 64, 156, 157, 256, 1024, 2047)]
+job_fields += [(35, 156), (36, 156), (37, 156), (36, 157), (20, 1024), (36, 1180), (52, 7), (53, 7), (54, 7), (7, 53)]
+for p, q in job_fields:
+    for label, t in (("A", A), ("river", river)):
+        runs(f"job word with P {p} and Q {q}, {label}", [word(5, p, q, 50)] + t)
+for p, q in ((0, 1), (36, 156), (37, 156), (63, 2047)):
+    runs(f"job word with P {p} and Q {q}, no table", [word(5, p, q, 50)])
+    runs(f"job word with P {p} and Q {q}, kind 4", [word(4, p, q, 50)] + A)
+    runs(f"job word with P {p} and Q {q}, percent 101", [word(5, p, q, 101)] + A)
+    runs(f"job word with P {p} and Q {q}, no choice", [word(5, p, q, 30)] + table([chance(0, 3, 10)], last))
+    runs(f"job word with P {p} and Q {q}, 18", [word(5, p, q, 30)] + put(B, 4, 0x40000002))
+
+
+def kits_drawn(n):
+    """Kits of lines: few, many, or some of both."""
+    most = rng.choice((2, 3, 4, 12, 501))
+    return [rng.randint(1, 501) if rng.random() < 0.1 else rng.randint(1, most) for _ in range(n)]
+
+
+def budgets(own, how_many):
+    """Kits beside what some of the lines cost, or any, with none and all."""
+    near = [max(0, sum(k for k in own if rng.random() < 0.5) + rng.choice((-1, 0, 0, 1))) for _ in range(how_many - 1)]
+    return near + [rng.choice((0, sum(own), 10020, rng.randint(0, 10020)))]
+
+
+def right(make):
+    """A made table that is accepted and has lines."""
+    while True:
+        t = make()
+        n = sum(1 for w in t[1:1 + fields(t[0])[1]] if w >> 28 == 2)
+        if n > 1 and not show_read(bytes_of(t)).startswith(" refused"):
+            return t, n
+
+
+def any_network():
+    """A network of some lines, by ways of up to three lines each."""
+    n = rng.randint(3, 6)
+    return network(n, [rng.sample(range(n), rng.randint(1, 3)) for _ in range(rng.randint(2, 5))], rng.random() < 0.5)
+
+
+makers = {
+    "made": lambda: made(rng.randint(3, 8), rng.randint(4, 14)),
+    "shared": lambda: layered(rng.randint(4, 9), rng.randint(6, 18)),
+    "network": any_network,
+}
+note("Search of made tables with kits")
+for label, make in makers.items():
+    for i in range(30):
+        t, n = right(make)
+        own = kits_drawn(n)
+        plan = [rng.choice((0, 0, 0, 0, 1, 2)) for _ in range(n)]
+        searches(f"kits, {label} {i}", with_kits(t, own), plan, [(kits, rng.choice((0, 0, 25, 50, 80))) for kits in budgets(own, 4)])
+note("Jobs with made tables with kits")
+for label, make in makers.items():
+    for i in range(40):
+        t, n = right(make)
+        own = kits_drawn(n)
+        runs(f"job, kits, {label} {i}", [job_of(budgets(own, 1 + i % 2)[0], rng.choice((0, 0, 25, 50)))] + with_kits(t, own))
+note("Sweep and filter of made tables with kits")
+for label, make in makers.items():
+    for i in range(3):
+        t, n = right(make)
+        sweep_and_filter(f"kits, {label} {i}", with_kits(t, kits_drawn(n)))
+
+services = [c for c in cases[before_kits:] if c[1] != "j"]
+note("Requests of opened tables with kits")
+on_opened_tables(first_refusals(services))
+on_opened_tables(answered(services)[::10])
 
 with open("../crates/cases/stdin", "w") as out:
     out.write("\n".join(lines) + "\n")

@@ -1,10 +1,12 @@
 #!/usr/bin/env python3
-"""Writes the standard input of the programs `plan_at_limit`, `plan_past_limit` and `plan_certain`, and what they have to print, the latter by oracle.py.
+"""Writes the standard input of the programs `plan_at_limit`, `plan_past_limit`, `plan_certain` and `plan_span`, and what they have to print, the latter by
+oracle.py.
 
 Both inputs begin with a job word and a table of 60 variables and 254 records, 1,264 bytes, which is the longest job that is answered.
 `plan_at_limit` reads these bytes alone. `plan_past_limit` has 36 more, so that the table is longer than any, which is refused; it then
 prints how many bytes are left unread, which are those after the first 1,265.
 `plan_certain` reads a job of one kit and 100 percent, and table A of document 01 with certain events, 2/2 and 10/10.
+`plan_span` reads the table of `plan_at_limit` with lines of 501, 401, 301 and 201 kits, and a job of 1,000 kits, P 40 and Q 15.
 Run it in this folder: python3 make_limits.py
 """
 from oracle import bytes_of, printout, word
@@ -12,10 +14,10 @@ from oracle import bytes_of, printout, word
 CHOICES = (48, 51, 54, 57)
 
 
-def variable(p):
+def variable(p, kits=(1, 1, 1, 1)):
     """A choice, a chance below the first choice, or a certain event above it."""
     if p in CHOICES:
-        return word(2, p, 0, 0)
+        return word(2, p, 0, kits[CHOICES.index(p)] - 1)
     return word(3, p, 10 - p % 3, 10) if p > CHOICES[0] else word(3, p, 1, 1)
 
 
@@ -49,3 +51,6 @@ write("plan_past_limit", past, str(len(past) - 1265))
 
 certain = [0x11002000, 0x20000000, 0x30401002, 0x20800000, 0x30C0500A, 0x40C00800, 0x40801000, 0x40400803, 0x40002003]
 write("plan_certain", bytes_of([word(5, 1, 0, 100)] + certain))
+
+span = table[:1] + [variable(p, (501, 401, 301, 201)) for p in range(60)] + table[61:]
+write("plan_span", bytes_of([word(5, 40, 15, 50)] + span))

@@ -1,10 +1,11 @@
-"""Answers of the planner's services, written from document 01 alone and by enumeration: what the test programs are compared with.
+"""Answers of the planner's services, written from documents 01 and 02 (papers 1 and 2) alone and by enumeration: what the test programs are compared with.
 
 Nothing here is shared with the crates. A table is a list of words (ints); a file is bytes.
 """
 from itertools import product
 
 LIMIT = 2 ** 56
+MOST_KITS = 10020
 
 
 class Refused(Exception):
@@ -30,13 +31,14 @@ def word(kind, p, q, r):
 
 class Table:
     def __init__(self, variables, records):
-        self.variables = variables  # None for a choice, (a, b) for a chance
+        self.variables = variables  # the kits of a choice, (a, b) of a chance
         self.records = records  # (position, hi, lo)
-        self.choices = [i for i, v in enumerate(variables) if v is None]
+        self.choices = [i for i, v in enumerate(variables) if isinstance(v, int)]
+        self.chances = [i for i, v in enumerate(variables) if not isinstance(v, int)]
+        self.kits = [variables[i] for i in self.choices]
         self.scale = 1
-        for v in variables:
-            if v:
-                self.scale *= v[1]
+        for i in self.chances:
+            self.scale *= variables[i][1]
 
     def truth(self, node, assignment):
         while node > 1:
@@ -86,19 +88,19 @@ def read(data):
     variables = []
     for i in range(1, v + 1):
         kind, p, q, r = fields(ws[i])
-        choice = kind == 2 and q == 0 and r == 0
+        choice = kind == 2 and q == 0 and r <= 500
         chance = kind == 3 and 1 <= r <= 1000 and q <= r
         if p != i - 1 or not (choice or chance):
             raise Refused(14, i)
-        variables.append(None if choice else (q, r))
+        variables.append(r + 1 if choice else (q, r))
     count = 0
     for i in range(1, v + 1):
-        count += variables[i - 1] is None
+        count += isinstance(variables[i - 1], int)
         if count > 20:
             raise Refused(15, i)
     scale = 1
     for i in range(1, v + 1):
-        scale *= variables[i - 1][1] if variables[i - 1] else 1
+        scale *= 1 if isinstance(variables[i - 1], int) else variables[i - 1][1]
         if scale > LIMIT:
             raise Refused(16, i)
     records = []
@@ -112,14 +114,14 @@ def read(data):
         records.append((p, hi, lo))
     table = Table(variables, records)
     for k, (p, hi, lo) in enumerate(records):
-        if variables[p] is None and not table.implies(lo, hi):
+        if p in table.choices and not table.implies(lo, hi):
             raise Refused(18, 1 + v + k)
     return table
 
 
 def score(table, plan):
     """The sum, over all settlings of all chances whose walk from the root ends in true, of their products."""
-    chances = [i for i, v in enumerate(table.variables) if v]
+    chances = table.chances
     assignment = [False] * len(table.variables)
     for line, i in enumerate(table.choices):
         assignment[i] = plan[line] == 1
@@ -142,12 +144,7 @@ def full(plan, mark):
 
 
 def completions(plan):
-    opens = [i for i, m in enumerate(plan) if m == 0]
-    for marks in product([1, 2], repeat=len(opens)):
-        way = list(plan)
-        for i, m in zip(opens, marks):
-            way[i] = m
-        yield way
+    return product(*([m] if m else [1, 2] for m in plan))
 
 
 def passes(table, percent, x):
@@ -160,42 +157,48 @@ def sweep(table, plan):
     return top, [top - score(table, full(plan[:i] + [2] + plan[i + 1:], 1)) if m == 0 else 0 for i, m in enumerate(plan)]
 
 
+def cost(table, plan):
+    """The sum of the kits of the lines taken."""
+    return sum([k for k, m in zip(table.kits, plan) if m == 1])
+
+
 def scored_ways(table, plan):
-    return [(way, score(table, way)) for way in completions(plan)]
+    """Every completion, with its score and its cost."""
+    return {way: (score(table, way), cost(table, way)) for way in completions(plan)}
 
 
 def filter_of(table, plan, percent, ways):
     """How many lines are forced, and the plan with them taken, or refusal 31."""
-    passing = [way for way, x in ways if passes(table, percent, x)]
+    passing = [way for way, (x, _) in ways.items() if passes(table, percent, x)]
     if not passing:
         raise Refused(31, 0)
     forced = [m == 0 and all(way[i] != 2 for way in passing) for i, m in enumerate(plan)]
     return sum(forced), [1 if f else m for f, m in zip(forced, plan)]
 
 
-def ranks_before(way, x, other, y):
-    """Whether a way with score x ranks before another with score y: higher score, then fewer lines taken, then at the first difference the one that takes."""
+def ranks_before(table, way, x, other, y):
+    """Whether a way with score x ranks before another with score y: higher score, then fewer kits, then at the first difference the one that takes."""
     if x != y:
         return x > y
-    if way.count(1) != other.count(1):
-        return way.count(1) < other.count(1)
+    if cost(table, way) != cost(table, other):
+        return cost(table, way) < cost(table, other)
     return any(m == 1 for m, o in [(m, o) for m, o in zip(way, other) if m != o][:1])
 
 
 def best_of(table, kits, percent, ways):
     """The candidate that ranks before all others, by comparing with every other one, or refusal 32."""
-    candidates = [(way, x) for way, x in ways if way.count(1) <= kits and passes(table, percent, x)]
+    candidates = [(way, x) for way, (x, c) in ways.items() if c <= kits and passes(table, percent, x)]
     if not candidates:
         raise Refused(32, 0)
     top = max(x for way, x in candidates)
     candidates = [(way, x) for way, x in candidates if x == top]
-    first = [(way, x) for way, x in candidates if all(way == o or ranks_before(way, x, o, y) for o, y in candidates)]
+    first = [(way, x) for way, x in candidates if all(way == o or ranks_before(table, way, x, o, y) for o, y in candidates)]
     assert len(first) == 1
     return first[0]
 
 
 def visits_of(table, plan, kits, percent, count=None):
-    """The visits of document 01's rule, sentence by sentence; scores are counted afresh."""
+    """The visits of document 01's rule, sentence by sentence, with kits in place of lines; scores are counted afresh."""
     count = count or (lambda way: score(table, way))
     held, visits = [], 0
 
@@ -203,10 +206,10 @@ def visits_of(table, plan, kits, percent, count=None):
         nonlocal visits
         visits += 1
         top = count(full(plan, 1))
-        if plan.count(1) > kits or not passes(table, percent, top) or held and top < held[1]:
+        if cost(table, plan) > kits or not passes(table, percent, top) or held and top < held[1]:
             return
         if 0 not in plan:
-            if not held or ranks_before(plan, top, held[0], held[1]):
+            if not held or ranks_before(table, plan, top, held[0], held[1]):
                 held[:] = [plan, top]
             return
         d = plan.index(0)
@@ -243,7 +246,7 @@ def accepted(data, plan, size, percent=0, kits=0):
     check_plan(t, plan)
     if percent > 100:
         raise Refused(23, 0)
-    if kits > 20:
+    if kits > MOST_KITS:
         raise Refused(24, 0)
     check_buffer(t, size)
     return t
@@ -251,11 +254,10 @@ def accepted(data, plan, size, percent=0, kits=0):
 
 def search_of(table, plan, kits, percent, ways):
     """The first candidate, its score and the visits; what the visits leave held is the same plan."""
-    scores = {tuple(way): x for way, x in ways}
-    visits, kept = visits_of(table, plan, kits, percent, lambda way: scores[tuple(way)])
+    visits, kept = visits_of(table, plan, kits, percent, lambda way: ways[tuple(way)][0])
     assert visits < 2 ** (plan.count(0) + 1)
     best, x = best_of(table, kits, percent, ways)
-    assert kept == [best, x]
+    assert kept == [list(best), x]
     return best, x, visits
 
 
@@ -288,19 +290,20 @@ def show_search(data, plan, kits, percent, size, ways=None):
         return f" refused {r.number} {r.place}, plan{numbers(held)}"
 
 
-def printout(data):
+def printout(data, ways=None):
     """What the program prints for the bytes on its standard input."""
     data = data[:1265]
     try:
         if len(data) < 4:
             raise Refused(10, 0)
-        kind, kits, q, percent = fields(words_of(data)[0])
-        if kind != 5 or q:
+        kind, p, q, percent = fields(words_of(data)[0])
+        kits = p + 64 * q
+        if kind != 5:
             raise Refused(10, 0)
         plan = [0] * len(read(data[4:]).choices)
         t = accepted(data[4:], plan, len(plan), percent, kits)
-        best, x, visits = search_of(t, plan, kits, percent, scored_ways(t, plan))
-        text = f"choices {len(plan)} scale {t.scale}\nkits {best.count(1)} score {x} visits {visits}\n"
+        best, x, visits = search_of(t, plan, kits, percent, ways or scored_ways(t, plan))
+        text = f"choices {len(plan)} scale {t.scale}\nkits {cost(t, best)} score {x} visits {visits}\n"
         return text + "".join(f"{i} {'take' if m == 1 else 'left'}\n" for i, m in enumerate(best))
     except Refused as r:
         return f"refused {r.number} {r.place}\n"

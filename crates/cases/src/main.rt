@@ -324,9 +324,10 @@ fn least(n: usize, buffer: &[u8]) -> usize
     if n < buffer.len() { n } else { buffer.len() }
 }
 
-// A number with one more decimal digit, as long as it is small.
+// A number with one more decimal digit, as long as it has 32 bits.
 fn append(n: u32, d: u8) -> u32 {
-    if n < 100000 { n * 10 + d as u32 } else { n }
+    let next = n as u64 * 10 + d as u64;
+    if next < 4294967296 { next as u32 } else { n }
 }
 
 // The value of a hexadecimal digit, or 16.

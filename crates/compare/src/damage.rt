@@ -8,8 +8,24 @@ use crate::draw::times;
 use crate::file::File;
 use crate::file::Word;
 
-// Values that a field may be set to: the limits of document 01 and the numbers beside them.
-const VALUES: [usize; 14] = [0, 1, 2, 3, 4, 10, 60, 61, 63, 254, 255, 1000, 1001, 2047];
+// Values that a field may be set to: the limits of documents 01 and 02 and the numbers beside them.
+const VALUES: [usize; 15] = [
+    0,
+    1,
+    2,
+    3,
+    4,
+    60,
+    61,
+    63,
+    254,
+    255,
+    500,
+    501,
+    1000,
+    1001,
+    2047,
+];
 
 // Lengths that a file may be cut or made longer to.
 const LENGTHS: [usize; 12] = [0, 1, 2, 3, 4, 5, 8, 1256, 1260, 1261, 1264, 1280];
@@ -96,16 +112,16 @@ fn own_node(file: File, i: usize) -> usize {
 
 // A value in place of an old one.
 fn value(seed: usize, old: usize, other: usize) -> usize {
-    let d = draw(seed, 9, 28);
-    if d < 14 {
+    let d = draw(seed, 9, 29);
+    if d < 15 {
         return VALUES[d];
     }
     match d {
-        14..=16 => plus(old, 1),
-        17 | 18 => minus(old, 1),
-        19 | 20 => other,
-        21 => plus(other, 1),
-        22 => minus(other, 1),
+        15..=17 => plus(old, 1),
+        18 | 19 => minus(old, 1),
+        20 | 21 => other,
+        22 => plus(other, 1),
+        23 => minus(other, 1),
         _ => draw(seed, 10, 2048),
     }
 }

@@ -4,6 +4,7 @@ use crate::draw::least;
 use crate::draw::minus;
 use crate::draw::plus;
 use crate::draw::times;
+use crate::marks::Marks;
 ghost use Prim.Native.Nat.{_<_};
 ghost use Rattle.io.specs.Counts.{Counts};
 
@@ -33,12 +34,12 @@ impl Word {
         }
     }
 
-    pub fn choice(p: usize) -> Word {
+    pub fn choice(p: usize, r: usize) -> Word {
         Word {
             kind: Word::CHOICE,
             p,
             q: 0,
-            r: 0,
+            r,
         }
     }
 
@@ -179,6 +180,31 @@ impl File {
             p += 1;
         }
         n
+    }
+
+    // The kits of the line at a position, R and one more, or 0 for a chance.
+    pub fn kits(self, p: usize) -> usize {
+        let w = self.word(plus(1, p));
+        if w.kind == Word::CHOICE {
+            plus(w.r, 1)
+        } else {
+            0
+        }
+    }
+
+    // The kits of the lines that a plan takes.
+    pub fn cost(self, plan: Marks) -> usize {
+        let v = self.variables();
+        let mut sum = 0;
+        let mut line = 0;
+        let mut p = 0;
+        while p < v {
+            let own = self.kits(p);
+            sum = plus(sum, times(own, plan.taken(line)));
+            line = counted(line, 0 < own);
+            p += 1;
+        }
+        sum
     }
 
     // The record of a node. An end is its own child.

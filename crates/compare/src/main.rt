@@ -6,6 +6,7 @@
 mod damage;
 mod draw;
 mod file;
+mod ladder;
 mod marks;
 mod requests;
 mod tables;

@@ -76,6 +76,16 @@ impl Marks {
         self
     }
 
+    // 1 for a line that is taken, else 0.
+    pub fn taken(self, i: usize) -> usize {
+        if i < 32 {
+            if self.marks[i] == 1 {
+                return 1;
+            }
+        }
+        0
+    }
+
     // How many marks count, as many as there are.
     pub fn length(self) -> usize
         ensures { λ r. ⌜ Counts r (self .marks) ⌝ }

@@ -2,9 +2,11 @@
 use crate::damage::damaged;
 use crate::draw::draw;
 use crate::draw::fork;
+use crate::draw::minus;
 use crate::draw::once_in;
 use crate::draw::plus;
 use crate::file::File;
+use crate::ladder::ladder;
 use crate::marks::Marks;
 use crate::tables::table;
 use crate::tally::Tally;
@@ -23,6 +25,7 @@ pub fn on_table(tally: Tally, seed: usize) -> Tally {
     match way {
         0 => on_file(tally, seed, 1, wide(fork(seed, 2))),
         1..=3 => on_file(tally, seed, 1, damaged(table(fork(seed, 3)), fork(seed, 4))),
+        4 => on_file(tally, seed, 4, ladder(fork(seed, 6))),
         _ => on_file(tally, seed, 4, table(fork(seed, 3))),
     }
 }
@@ -31,33 +34,27 @@ pub fn on_table(tally: Tally, seed: usize) -> Tally {
 fn on_file(tally: Tally, seed: usize, rounds: usize, file: File) -> Tally {
     let bytes = file.bytes;
     let n = file.length();
-    let choices = file.choices();
-    on_bytes(tally, seed, rounds, choices, &bytes[..n])
+    on_bytes(tally, seed, rounds, file, &bytes[..n])
 }
 
 // Reads once, and tries the other services in rounds.
-fn on_bytes(tally: Tally, seed: usize, rounds: usize, choices: usize, file: &[u8]) -> Tally {
+fn on_bytes(tally: Tally, seed: usize, rounds: usize, made: File, file: &[u8]) -> Tally {
     let mut counts = read_twice(tally, seed, file);
     let mut k = 0;
     while k < rounds {
-        counts = round(counts, seed, fork(fork(seed, 5), k), choices, file);
+        counts = round(counts, seed, fork(fork(seed, 5), k), made, file);
         k += 1;
     }
     counts
 }
 
-// One plan for the sweep, the filter and the search, and the same completed for the score.
-fn round(tally: Tally, table: usize, seed: usize, choices: usize, file: &[u8]) -> Tally {
+// One plan for the sweep, the filter and the search, and the same completed for the score. The kits are about what the latter costs.
+fn round(tally: Tally, table: usize, seed: usize, made: File, file: &[u8]) -> Tally {
+    let choices = made.choices();
     let plan = Marks::drawn(fork(seed, 1), choices);
-    on_plans(
-        tally,
-        table,
-        seed,
-        choices,
-        file,
-        plan,
-        plan.completed(fork(seed, 2)),
-    )
+    let full = plan.completed(fork(seed, 2));
+    let kits = kits(seed, choices, made.cost(full));
+    on_plans(tally, table, seed, choices, file, plan, full, kits)
 }
 
 fn on_plans(
@@ -68,12 +65,22 @@ fn on_plans(
     file: &[u8],
     plan: Marks,
     full: Marks,
+    kits: u32,
 ) -> Tally {
     let marks = plan.marks;
     let n = plan.length();
     let ends = full.marks;
     let m = full.length();
-    services(tally, table, seed, choices, file, &marks[..n], &ends[..m])
+    services(
+        tally,
+        table,
+        seed,
+        choices,
+        file,
+        &marks[..n],
+        &ends[..m],
+        kits,
+    )
 }
 
 fn services(
@@ -84,13 +91,14 @@ fn services(
     file: &[u8],
     plan: &[u8],
     full: &[u8],
+    kits: u32,
 ) -> Tally {
     let size = lent(seed, choices);
     let percent = percentage(seed, file, full);
     let one = score_twice(tally, table, file, full);
     let two = sweep_twice(one, table, file, plan, size);
     let three = filter_twice(two, table, file, plan, percent, size);
-    search_twice(three, table, file, plan, kits(seed, choices), percent, size)
+    search_twice(three, table, file, plan, kits, percent, size)
 }
 
 // The size of the lent buffer, now and then a wrong one.
@@ -102,16 +110,18 @@ fn lent(seed: usize, choices: usize) -> usize {
     }
 }
 
-// The kits of a job: about as many as there are choices, or any, now and then too many.
-fn kits(seed: usize, choices: usize) -> u32 {
+// The kits of a job: mostly what a plan costs or one beside it, or less, or about as many as there are choices, now and then too many.
+fn kits(seed: usize, choices: usize, cost: usize) -> u32 {
     let way = draw(seed, 8, 32);
-    if way == 0 {
-        return 4294967295;
-    }
-    let n = if way < 12 {
-        draw(seed, 9, 23)
-    } else {
-        draw(seed, 10, plus(choices, 2))
+    let n = match way {
+        0 => 4294967295,
+        1 => 10021,
+        2 => 10020,
+        3 => draw(seed, 15, 131072),
+        4..=7 => draw(seed, 9, 23),
+        8..=11 => draw(seed, 10, plus(choices, 2)),
+        12..=15 => draw(seed, 16, plus(cost, 2)),
+        _ => minus(plus(cost, draw(seed, 17, 3)), 1),
     };
     (n % 4294967296) as u32
 }

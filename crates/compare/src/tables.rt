@@ -9,6 +9,7 @@ use crate::draw::plus;
 use crate::draw::times;
 use crate::file::File;
 use crate::file::Word;
+use crate::variables::MIXED;
 use crate::variables::with_variables;
 
 // The two children of a record.
@@ -20,7 +21,7 @@ pub struct Pair {
 // A table. Its size, the b of its chances and the way its records are made are drawn once for all of it.
 pub fn table(seed: usize) -> File {
     let started = File::started(variable_count(seed), record_count(seed));
-    with_records(with_variables(started, fork(seed, 1), false), fork(seed, 2))
+    with_records(with_variables(started, fork(seed, 1), MIXED), fork(seed, 2))
 }
 
 // Mostly up to 7, and up to 10.

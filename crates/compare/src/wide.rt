@@ -6,12 +6,13 @@ use crate::draw::minus;
 use crate::draw::plus;
 use crate::file::File;
 use crate::file::Word;
+use crate::variables::WIDE;
 use crate::variables::with_variables;
 
 pub fn wide(seed: usize) -> File {
     let v = minus(60, draw(seed, 1, 40));
     let n = minus(254, draw(seed, 2, 254));
-    let varied = with_variables(File::started(v, n), fork(seed, 3), true);
+    let varied = with_variables(File::started(v, n), fork(seed, 3), WIDE);
     with_fault(with_records(varied), fork(seed, 4))
 }
 

@@ -1,6 +1,6 @@
 // What the program `plan` does: it reads a job word and a table from standard input, at most 1,265 bytes, and prints the plan
-// or the refusal. The programs `plan`, `plan_at_limit` and `plan_past_limit` are this function, run on three inputs. No contract
-// can say what is read and written; all that stands between is `printout::print_read`.
+// or the refusal. `plan` and the programs named after it are this function, each run on an input of its own. No contract can say
+// what is read and written; all that stands between is `printout::print_read`.
 pub fn run() {
     let mut input = [0u8; 1265];
     let n = io::read_full(libc::STDIN_FILENO, &mut input);

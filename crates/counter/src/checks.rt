@@ -41,7 +41,7 @@ pub fn check(
     if 100 < percent {
         return refused(23, 0);
     }
-    if 20 < kits {
+    if 10020 < kits {
         return refused(24, 0);
     }
     if lent != plan.len() {
@@ -144,7 +144,7 @@ fn right_variable(word: Word, v: u64) -> bool {
         return false;
     }
     if word.kind == 2 {
-        return word.q == 0 && word.r == 0;
+        return word.q == 0 && word.r <= 500;
     }
     word.kind == 3 && within(word.r, 1, 1000) && word.q <= word.r
 }

@@ -1,12 +1,15 @@
 // Plans, by the sets of the choice numbers that they take and leave: the top, the drops, what every
 // passing completion takes, and the best candidate, by trying all full plans.
+use crate::numbers::add;
 use crate::numbers::has;
 use crate::numbers::only;
-use crate::numbers::size;
 use crate::numbers::sub;
 use crate::scores::passes;
 use crate::scores::score_of;
 use crate::table::choices;
+use crate::table::choices_below;
+use crate::table::variable;
+use crate::table::variables;
 
 pub struct Marks {
     pub taken: u64,
@@ -108,6 +111,27 @@ pub fn write_marks(out: &mut [u8], marks: Marks) {
     }
 }
 
+// The kits of the lines taken.
+pub fn cost_of(words: &[u64; 320], taken: u64) -> u64 {
+    let end = variables(words);
+    let mut sum: u64 = 0;
+    let mut v: u64 = 0;
+    while v < end {
+        sum = add(sum, kits_at(words, taken, v));
+        v += 1;
+    }
+    sum
+}
+
+// The kits of the line at position v, R and one more; 0 where it is not taken, and for a chance.
+fn kits_at(words: &[u64; 320], taken: u64, v: u64) -> u64 {
+    let word = variable(words, v);
+    if word.kind == 2 && has(taken, choices_below(words, v)) {
+        return add(word.r, 1);
+    }
+    0
+}
+
 // Whether a full plan keeps every mark of the plan.
 fn completes(full: u64, marks: Marks) -> bool {
     full & marks.taken == marks.taken && full & marks.left == 0
@@ -165,7 +189,7 @@ pub fn best_of(words: &[u64; 320], marks: Marks, kits: u32, percent: u32) -> Bes
     let mut best = none_held();
     let mut full: u64 = 0;
     while full < end {
-        if completes(full, marks) && size(full) <= kits as u64 {
+        if completes(full, marks) && cost_of(words, full) <= kits as u64 {
             best = tried(words, best, full, percent);
         }
         full += 1;
@@ -178,12 +202,12 @@ fn tried(words: &[u64; 320], best: Best, full: u64, percent: u32) -> Best {
     if !passes(words, score, percent) {
         return best;
     }
-    first_of(best, score, full)
+    first_of(words, best, score, full)
 }
 
 // The one that ranks first of the best plan, if one is held, and another full plan.
-pub fn first_of(best: Best, score: u64, full: u64) -> Best {
-    if best.held && !ranks_before(score, full, best) {
+pub fn first_of(words: &[u64; 320], best: Best, score: u64, full: u64) -> Best {
+    if best.held && !ranks_before(words, score, full, best) {
         return best;
     }
     Best {
@@ -194,15 +218,15 @@ pub fn first_of(best: Best, score: u64, full: u64) -> Best {
     }
 }
 
-// Higher score; then fewer lines taken; then the lowest line in which they differ.
-fn ranks_before(score: u64, full: u64, best: Best) -> bool {
+// Higher score; then fewer kits; then the lowest line in which they differ.
+fn ranks_before(words: &[u64; 320], score: u64, full: u64, best: Best) -> bool {
     if score != best.score {
         return best.score < score;
     }
-    let lines = size(full);
-    let best_lines = size(best.full);
-    if lines != best_lines {
-        return lines < best_lines;
+    let cost = cost_of(words, full);
+    let best_cost = cost_of(words, best.full);
+    if cost != best_cost {
+        return cost < best_cost;
     }
     takes_first(full, best.full)
 }

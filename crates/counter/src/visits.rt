@@ -1,9 +1,9 @@
 // The visits of the search, by the visit rule as it is written, with each score counted afresh.
 use crate::numbers::add;
-use crate::numbers::size;
 use crate::numbers::sub;
 use crate::plans::Best;
 use crate::plans::Marks;
+use crate::plans::cost_of;
 use crate::plans::drop_of;
 use crate::plans::first_of;
 use crate::plans::lowest_open;
@@ -26,7 +26,7 @@ fn visit(words: &[u64; 320], marks: Marks, kits: u32, percent: u32, room: u64, h
     }
     let d = lowest_open(words, marks);
     if d == choices(words) {
-        return first_of(best, top_of(words, marks), marks.taken);
+        return first_of(words, best, top_of(words, marks), marks.taken);
     }
     if room == 0 {
         return best;
@@ -44,9 +44,10 @@ fn counted(best: Best) -> Best {
     next
 }
 
-// Whether a visit goes back: more lines are taken than kits, or the top does not serve.
+// Whether a visit goes back: the lines taken cost more than the kits, or the top does not serve.
 fn goes_back(words: &[u64; 320], marks: Marks, kits: u32, percent: u32, best: Best) -> bool {
-    (kits as u64) < size(marks.taken) || !serves(words, top_of(words, marks), percent, best)
+    (kits as u64) < cost_of(words, marks.taken)
+        || !serves(words, top_of(words, marks), percent, best)
 }
 
 // Whether d is to be left too: the top less d's drop serves.

@@ -26,9 +26,9 @@ pub record Check : Type 0 where
 -- ---------------------------------------------------------------------------
 -- 10: the program's job word, which is the first word of its input
 
--- 10: "job word missing, kind not 5, or Q not 0"
+-- 10: "job word missing, kind not 5"; it "no longer looks at Q" (document 02, paper 2)
 unfoldable pub jobFault : List ℕ → Option ℕ
-jobFault input = placeZero (not (eqb (kind (wordAt input 0)) 5 && eqb (fieldQ (wordAt input 0)) 0))
+jobFault input = placeZero (not (eqb (kind (wordAt input 0)) 5))
 
 -- ---------------------------------------------------------------------------
 -- 11 to 18: the file
@@ -49,11 +49,12 @@ headingFault s = placeZero (not (isHeading (wordAt s 0)))
 unfoldable pub countFault : List ℕ → Option ℕ
 countFault s = placeZero (not (eqb (length s) (4 * (1 + variableCount s + recordCount s))))
 
--- A choice word is of kind 2 with its position and zeros, a chance word of kind 3 with its position, b from 1 to 1,000 and a from 0 to b
+-- A choice word is of kind 2 with its position, Q 0 and R from 0 to 500, which is its kits less one, a chance word of kind 3 with its position, b from 1 to
+-- 1,000 and a from 0 to b
 unfoldable pub isVariableWord : (position : ℕ) → ℕ → Bool
 isVariableWord i w =
     eqb (fieldP w) i
-    && (eqb (kind w) 2 && eqb (fieldQ w) 0 && eqb (fieldR w) 0
+    && (eqb (kind w) 2 && eqb (fieldQ w) 0 && leb (fieldR w) 500
     || eqb (kind w) 3 && (leb 1 (fieldR w) && leb (fieldR w) 1000) && leb (fieldQ w) (fieldR w))
 
 -- 14: "a variable word's kind or a field wrong", at the first such word. The variable at position i is word i + 1.
@@ -121,9 +122,9 @@ fullPlanFault p s = firstPlace (λ i. ltb 2 (getD p i 0) || eqb (getD p i 0) 0) 
 unfoldable pub percentFault : ℕ → List ℕ → Option ℕ
 percentFault percent s = placeZero (ltb 100 percent)
 
--- 24: "kits above 20"
+-- 24: "kits above 10,020" (document 02, paper 2)
 unfoldable pub budgetFault : ℕ → List ℕ → Option ℕ
-budgetFault budget s = placeZero (ltb 20 budget)
+budgetFault budget s = placeZero (ltb 10020 budget)
 
 -- 25: "the written buffer's length is not the number of choices"
 unfoldable pub bufferFault : ℕ → List ℕ → Option ℕ

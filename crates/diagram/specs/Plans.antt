@@ -1,5 +1,5 @@
 -- Document 01, "Scores, drops and passing": plans and their completions, the top, the drops, passing and forced lines.
--- Passing is as document 02, paper 1, has it. A plan is a list of marks, one a choice: 0 open, 1 taken, 2 left.
+-- Passing is as document 02, paper 1, has it, and the cost as paper 2 has it. A plan is a list of marks, one a choice: 0 open, 1 taken, 2 left.
 use Prim.Native.Nat.{ℕ, zero, suc, _+_, _-_, _*_}
 use mathlib.Core.Path.{_≡_}
 use mathlib.Core.Bool.{Bool, cond, not, _&&_}
@@ -7,7 +7,7 @@ use mathlib.Core.List.{List, [], _∷_, _++_, map}
 use lib.ListN.{length, getD, set}
 use lib.Dec.{eqb, leb}
 use Rattle.diagram.specs.Table.{Table, sequence, scale}
-use Rattle.diagram.specs.Score.{score, every}
+use Rattle.diagram.specs.Score.{isTaken, score, every}
 
 -- "A way of settling a plan's open lines, or completion, is a full plan with each open line made taken or left and every other mark kept"
 unfoldable pub completions : List ℕ → List (List ℕ)
@@ -27,16 +27,16 @@ openCount [] = 0
 openCount (zero ∷ p) = suc (openCount p)
 openCount (suc m ∷ p) = openCount p
 
--- How many lines are taken
-unfoldable pub takenCount : List ℕ → ℕ
-takenCount [] = 0
-takenCount (zero ∷ p) = takenCount p
-takenCount (suc zero ∷ p) = suc (takenCount p)
-takenCount (suc (suc m) ∷ p) = takenCount p
+-- The sum of the kits of the lines that a plan takes, the kits by choice number
+unfoldable pub costOf : (kits plan : List ℕ) → ℕ
+costOf kits [] = 0
+costOf [] (m ∷ p) = 0
+costOf (k ∷ kits) (m ∷ p) = cond (isTaken m) k 0 + costOf kits p
 
--- What a plan costs in kits: a kit for each line taken
-unfoldable pub cost : List ℕ → ℕ
-cost p = takenCount p
+-- What a plan costs in a table. Document 02, paper 2: "Ranking, candidates, visit rule and the printed kits all read the sum of kits where they read the
+-- number of lines."
+unfoldable pub cost : Table → List ℕ → ℕ
+cost t p = costOf (t .kits) p
 
 -- Whether choice i of a plan is open
 unfoldable pub isOpen : List ℕ → ℕ → Bool

@@ -1,10 +1,10 @@
 -- Document 01, "The program plan and its printout": what the program prints for the bytes that it reads. Text is a list of ASCII codes.
-use Prim.Native.Nat.{ℕ, zero, suc, _+_, _/_, _%_}
+use Prim.Native.Nat.{ℕ, zero, suc, _+_, _*_, _/_, _%_}
 use mathlib.Core.Bool.{true, false, cond}
 use mathlib.Core.List.{List, [], _∷_, _++_}
 use lib.ListN.{take, drop, replicate}
 use lib.Dec.{ltb}
-use Rattle.diagram.specs.Words.{wordAt, fieldP, fieldR}
+use Rattle.diagram.specs.Words.{wordAt, fieldP, fieldQ, fieldR}
 use Rattle.diagram.specs.Table.{Table, tableOf, choiceCount, scale}
 use Rattle.diagram.specs.Score.{isTaken}
 use Rattle.diagram.specs.Plans.{cost}
@@ -66,11 +66,12 @@ markLines i (m ∷ p) = line (decimal i ++ cond (isTaken m) takeWord leftWord) +
 unfoldable pub refusalText : (number place : ℕ) → List ℕ
 refusalText number place = line (refusedWord ++ decimal number ++ 32 ∷ [] ++ decimal place)
 
--- "Fields: the number of choices and B; the lines taken, score and visits; then for each choice its number and its mark."
+-- "Fields: the number of choices and B; the lines taken, score and visits; then for each choice its number and its mark", where the sum of kits is printed
+-- for the lines taken
 unfoldable pub planText : Table → Searching → List ℕ
 planText t found =
     line (choicesWord ++ decimal (choiceCount (t .variables)) ++ scaleWord ++ decimal (scale t))
-    ++ line (kitsWord ++ decimal (cost (found .plan)) ++ scoreWord ++ decimal (found .score) ++ visitsWord ++ decimal (found .visits))
+    ++ line (kitsWord ++ decimal (cost t (found .plan)) ++ scoreWord ++ decimal (found .score) ++ visitsWord ++ decimal (found .visits))
     ++ markLines 0 (found .plan)
 
 -- What is printed of what the search answers: a refusal's line, or the plan
@@ -84,10 +85,14 @@ jobOutcome file budget percent =
     let choices = choiceCount (tableOf file .variables) in
     searchOutcome file (replicate choices 0) budget percent choices
 
--- "Plan reads one job word and then a table": kits are the job word's P and the percentage its R; the table is all that follows
+-- The kits of a job word. Document 02, paper 2: "The job word's kits become P plus 64 times Q."
+unfoldable pub jobKits : ℕ → ℕ
+jobKits w = fieldP w + 64 * fieldQ w
+
+-- "Plan reads one job word and then a table": the percentage is the job word's R; the table is all that follows
 unfoldable pub programOutcome : List ℕ → Outcome Searching
 programOutcome input =
-    checked jobChecks (λ job. jobOutcome (drop 4 job) (fieldP (wordAt job 0)) (fieldR (wordAt job 0))) input
+    checked jobChecks (λ job. jobOutcome (drop 4 job) (jobKits (wordAt job 0)) (fieldR (wordAt job 0))) input
 
 -- What the program prints for all that could be read from standard input: "at most 1,265 bytes are read"
 unfoldable pub printout : List ℕ → List ℕ

@@ -14,11 +14,12 @@ takesFirst [] q = false
 takesFirst (m ∷ p) [] = false
 takesFirst (m ∷ p) (n ∷ q) = cond (eqb m n) (takesFirst p q) (isTaken m)
 
--- "Ranking: higher score; then fewer lines taken; then, at the lowest choice number where two differ, the one that takes it."
+-- "Ranking: higher score; then fewer lines taken; then, at the lowest choice number where two differ, the one that takes it", where the sum of kits is read
+-- for the number of lines
 unfoldable pub ranksBefore : Table → List ℕ → List ℕ → Bool
 ranksBefore t p q =
     ltb (score t q) (score t p)
-    || eqb (score t p) (score t q) && (ltb (cost p) (cost q) || eqb (cost p) (cost q) && takesFirst p q)
+    || eqb (score t p) (score t q) && (ltb (cost t p) (cost t q) || eqb (cost t p) (cost t q) && takesFirst p q)
 
 -- The one of two that ranks first, where the first of them may be missing
 unfoldable pub better : Table → Option (List ℕ) → List ℕ → Option (List ℕ)
@@ -29,9 +30,9 @@ better t (some b) c = some (cond (ranksBefore t c b) c b)
 unfoldable pub firstRanked : Table → List (List ℕ) → Option (List ℕ)
 firstRanked t cs = foldl (better t) none cs
 
--- "Candidates finish the plan, take at most that many lines (those already taken included) and pass."
+-- "Candidates finish the plan, take at most that many lines (those already taken included) and pass", where the sum of kits is read for the number of lines
 unfoldable pub isCandidate : Table → (budget percent : ℕ) → List ℕ → Bool
-isCandidate t budget percent c = leb (cost c) budget && passing t percent c
+isCandidate t budget percent c = leb (cost t c) budget && passing t percent c
 
 -- The elements of a list that a test holds of, in order
 unfoldable pub select : {A : Type 0} → (A → Bool) → List A → List A

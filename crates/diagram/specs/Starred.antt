@@ -1,19 +1,19 @@
--- Document 01, "Tried at the counter": the twelve starred cases, five of which have another answer since paper 1 of document 02, and what else that paper
--- says of certain events, of the printed job and of the filter at every percentage.
+-- Document 01, "Tried at the counter": the twelve starred cases, five of which have another answer since paper 1 of document 02, what else that paper says
+-- of certain events, of the printed job and of the filter at every percentage, and lines of several kits (paper 2).
 use Prim.Native.Nat.{ℕ, _+_}
 use mathlib.Core.Path.{_≡_, refl}
 use mathlib.Core.List.{List, [], _∷_, _++_, map}
 use lib.ListN.{length, take, drop, replicate}
 use Rattle.diagram.specs.Words.{wordAt}
-use Rattle.diagram.specs.Table.{sequence, variableCount, recordCount, variableOf, recordOf, tableOf, recordAt, root, isChoice, choiceCount, scaleOf, scale}
+use Rattle.diagram.specs.Table.{sequence, variableCount, recordCount, variableOf, recordOf, kitsOf, tableOf, recordAt, root, isChoice, choiceCount, scaleOf, scale}
 use Rattle.diagram.specs.Score.{walk, truth, settlings, weight, sum, total, scoreFrom, score, assignments, every, implies}
-use Rattle.diagram.specs.Plans.{completions, openTaken, openCount, takenCount, cost, isOpen, leaves, upperBound, derivative, derivatives, passes, noneOf, passing, forced, forcedPlan, countOf, forcedCount}
+use Rattle.diagram.specs.Plans.{completions, openTaken, openCount, costOf, cost, isOpen, leaves, upperBound, derivative, derivatives, passes, noneOf, passing, forced, forcedPlan, countOf, forcedCount}
 use Rattle.diagram.specs.Ranking.{takesFirst, ranksBefore, better, firstRanked, isCandidate, select, bestPlan}
 use Rattle.diagram.specs.Visits.{beaten, goesBack, lowestOpen, visit, visited, visitCount}
 use Rattle.diagram.specs.Checks.{placeZero, firstPlace, jobFault, lengthFault, isHeading, headingFault, countFault, isVariableWord, variableFault, choiceFault, scaleFault, positionOf, isChild, isRecordWord, recordFault, isMonotoneAt, monotoneFault, planLengthFault, planMarkFault, fullPlanFault, percentFault, budgetFault, bufferFault, jobChecks, tableChecks, scoreChecks, sweepChecks, filterChecks, searchChecks}
 use Rattle.diagram.specs.Services.{Outcome, refused, answered}
 use Rattle.diagram.specs.Services.{checked, written, reading, readOutcome, scoreOutcome, sweepOutcome, sweepBuffer, filtering, filterOutcome, filterBuffer, searching, searchOutcome, searchBuffer}
-use Rattle.diagram.specs.Printout.{digits, decimal, refusedWord, choicesWord, scaleWord, kitsWord, scoreWord, visitsWord, takeWord, leftWord, line, markLines, refusalText, planText, searchText, jobOutcome, programOutcome, printout}
+use Rattle.diagram.specs.Printout.{digits, decimal, refusedWord, choicesWord, scaleWord, kitsWord, scoreWord, visitsWord, takeWord, leftWord, line, markLines, refusalText, planText, searchText, jobOutcome, jobKits, programOutcome, printout}
 
 -- "Table A, (line 0 and event 1) or (line 1 and event 3), events 1/2 and 6/10"
 unfoldable pub tableA : List ℕ
@@ -42,7 +42,27 @@ tableB last =
     ∷ 0x40 ∷ 0x40 ∷ 0x08 ∷ 0x00
     ∷ last
 
--- A request to a service, with buffers of the right size for two choices; `printed` is the program on its input
+-- Table A with a river span for line 0: R, its kits less one, is 256 and a byte that is given apart
+unfoldable pub river0 : (byte : ℕ) → List ℕ
+river0 byte = take 4 tableA ++ 0x20 ∷ 0x00 ∷ 0x01 ∷ byte ∷ drop 8 tableA
+
+-- Table A with a river span for line 1, in the same way
+unfoldable pub river1 : (byte : ℕ) → List ℕ
+river1 byte = take 12 tableA ++ 0x20 ∷ 0x80 ∷ 0x01 ∷ byte ∷ drop 16 tableA
+
+-- Line 0, or lines 1 and 2 together, and no event. R of line 0, its kits less one, is given apart; the others take one kit each.
+unfoldable pub twoWays : (less : ℕ) → List ℕ
+twoWays less =
+    0x10 ∷ 0xC0 ∷ 0x18 ∷ 0x00
+    ∷ 0x20 ∷ 0x00 ∷ 0x00 ∷ less
+    ∷ 0x20 ∷ 0x40 ∷ 0x00 ∷ 0x00
+    ∷ 0x20 ∷ 0x80 ∷ 0x00 ∷ 0x00
+    ∷ 0x40 ∷ 0x80 ∷ 0x08 ∷ 0x00
+    ∷ 0x40 ∷ 0x40 ∷ 0x10 ∷ 0x00
+    ∷ 0x40 ∷ 0x00 ∷ 0x08 ∷ 0x03
+    ∷ []
+
+-- A request to a service, with a buffer of the plan's size; `printed` is the program on its input
 pub data Request : Type 0 where
   read : (file : List ℕ) → Request
   scored : (file plan : List ℕ) → Request
@@ -61,9 +81,9 @@ unfoldable pub answerTo : Request → Outcome (List ℕ)
 unfolding numbers
 answerTo (read s) = numbers (λ a. a .variables ∷ a .records ∷ a .choices ∷ a .scale ∷ []) (readOutcome s)
 answerTo (scored s p) = numbers (λ a. a ∷ []) (scoreOutcome s p)
-answerTo (swept s p) = numbers (λ a. a .upperBound ∷ a .derivatives) (sweepOutcome s p 2)
-answerTo (filtered s p percent) = numbers (λ a. a .forced ∷ a .plan) (filterOutcome s p percent 2)
-answerTo (searched s p budget percent) = numbers (λ a. a .score ∷ a .plan) (searchOutcome s p budget percent 2)
+answerTo (swept s p) = numbers (λ a. a .upperBound ∷ a .derivatives) (sweepOutcome s p (length p))
+answerTo (filtered s p percent) = numbers (λ a. a .forced ∷ a .plan) (filterOutcome s p percent (length p))
+answerTo (searched s p budget percent) = numbers (λ a. a .score ∷ a .plan) (searchOutcome s p budget percent (length p))
 answerTo (printed input) = answered (printout input)
 
 -- A case: requests, and the answers that the documents give
@@ -137,14 +157,70 @@ paper1 =
     ∷ record { requests = printed (0x50 ∷ 0x40 ∷ 0x00 ∷ 0x3C ∷ tableA) ∷ []; answers = answered (lineOne 5) ∷ [] }
     ∷ []
 
+-- What the program prints of table A where both lines are taken in the visits - -, T - and T T, with the digits of the kits given apart: choices 2 scale 20,
+-- kits .. score 16 visits 3, 0 take, 1 take
+unfoldable pub bothLines : (kits : List ℕ) → List ℕ
+bothLines kits =
+    99 ∷ 104 ∷ 111 ∷ 105 ∷ 99 ∷ 101 ∷ 115 ∷ 32 ∷ 50 ∷ 32 ∷ 115 ∷ 99 ∷ 97 ∷ 108 ∷ 101 ∷ 32 ∷ 50 ∷ 48 ∷ 10
+    ∷ 107 ∷ 105 ∷ 116 ∷ 115 ∷ 32 ∷ kits
+    ++ 32 ∷ 115 ∷ 99 ∷ 111 ∷ 114 ∷ 101 ∷ 32 ∷ 49 ∷ 54 ∷ 32 ∷ 118 ∷ 105 ∷ 115 ∷ 105 ∷ 116 ∷ 115 ∷ 32 ∷ 51 ∷ 10
+    ∷ 48 ∷ 32 ∷ 116 ∷ 97 ∷ 107 ∷ 101 ∷ 10
+    ∷ 49 ∷ 32 ∷ 116 ∷ 97 ∷ 107 ∷ 101 ∷ 10
+    ∷ []
+
+-- refused 24 0
+unfoldable pub tooManyKits : List ℕ
+tooManyKits = 114 ∷ 101 ∷ 102 ∷ 117 ∷ 115 ∷ 101 ∷ 100 ∷ 32 ∷ 50 ∷ 52 ∷ 32 ∷ 48 ∷ 10 ∷ []
+
+-- Paper 2 of document 02
+unfoldable pub paper2 : List Case
+paper2 =
+    -- R 500 is 501 kits: where the other line is left, there is no candidate with 500, and one with 501
+    record {
+      requests = searched (river0 0xF4) (0 ∷ 2 ∷ []) 500 50 ∷ searched (river0 0xF4) (0 ∷ 2 ∷ []) 501 50 ∷ [];
+      answers = refused 32 0 ∷ answered (10 ∷ 1 ∷ 2 ∷ []) ∷ [];
+    }
+    ∷ record {
+      requests = searched (river1 0xF4) (2 ∷ 0 ∷ []) 500 50 ∷ searched (river1 0xF4) (2 ∷ 0 ∷ []) 501 50 ∷ [];
+      answers = refused 32 0 ∷ answered (12 ∷ 2 ∷ 1 ∷ []) ∷ [];
+    }
+    -- "14 comes for R above 500", at the line's word; and for a Q that is not 0, as before
+    ∷ record {
+      requests = read (river0 0xF5) ∷ read (river1 0xF5) ∷ read (take 4 tableA ++ 0x20 ∷ 0x00 ∷ 0x08 ∷ 0x00 ∷ drop 8 tableA) ∷ [];
+      answers = refused 14 1 ∷ refused 14 3 ∷ refused 14 1 ∷ [];
+    }
+    -- "24 for kits above 10,020"
+    ∷ record {
+      requests = searched tableA allOpen 10020 50 ∷ searched tableA allOpen 10021 50 ∷ [];
+      answers = answered (16 ∷ 1 ∷ 1 ∷ []) ∷ refused 24 0 ∷ [];
+    }
+    -- of two plans of one score, the one of the smaller sum, though it takes more lines; where the sums are equal, the one that takes line 0
+    ∷ record {
+      requests = searched (twoWays 2) (0 ∷ 0 ∷ 0 ∷ []) 3 100 ∷ searched (twoWays 1) (0 ∷ 0 ∷ 0 ∷ []) 3 100 ∷ [];
+      answers = answered (1 ∷ 2 ∷ 1 ∷ 1 ∷ []) ∷ answered (1 ∷ 1 ∷ 2 ∷ 2 ∷ []) ∷ [];
+    }
+    -- the visit rule: with 500 kits, P 52 and Q 7, a river span of 501 is a visit that goes back, - -, T -, L - and L T. The printed kits are the plan's.
+    ∷ record { requests = printed (0x5D ∷ 0x00 ∷ 0x38 ∷ 0x32 ∷ river0 0xF4) ∷ []; answers = answered (lineOne 4) ∷ [] }
+    -- "P plus 64 times Q": 64 kits are Q 1, 502 are P 54 and Q 7, 10,020 are P 36 and Q 156
+    ∷ record {
+      requests = printed (0x50 ∷ 0x00 ∷ 0x08 ∷ 0x32 ∷ tableA) ∷ printed (0x5D ∷ 0x80 ∷ 0x38 ∷ 0x32 ∷ river0 0xF4) ∷ printed (0x59 ∷ 0x04 ∷ 0xE0 ∷ 0x32 ∷ river1 0xF4) ∷ [];
+      answers = answered (bothLines (50 ∷ [])) ∷ answered (bothLines (53 ∷ 48 ∷ 50 ∷ [])) ∷ answered (bothLines (53 ∷ 48 ∷ 50 ∷ [])) ∷ [];
+    }
+    -- "Refusal 10 no longer looks at Q": 10,021 kits, 16,384, which are Q 256, and 131,071, all of P and Q
+    ∷ record {
+      requests = printed (0x59 ∷ 0x44 ∷ 0xE0 ∷ 0x32 ∷ tableA) ∷ printed (0x50 ∷ 0x08 ∷ 0x00 ∷ 0x32 ∷ tableA) ∷ printed (0x5F ∷ 0xFF ∷ 0xF8 ∷ 0x32 ∷ tableA) ∷ [];
+      answers = answered tooManyKits ∷ answered tooManyKits ∷ answered tooManyKits ∷ [];
+    }
+    ∷ []
+
 -- The starred cases are twelve
 pub twelve : length starred ≡ 12
 unfolding starred
 twelve = refl
 
--- Each request has the answer that document 01 gives, or paper 1 of document 02
-pub starredHold : map (λ c. map answerTo (c .requests)) (starred ++ paper1) ≡ map (λ c. c .answers) (starred ++ paper1)
-unfolding starred paper1 lineOne answerTo tableA certainA tableB allOpen numbers wordAt sequence variableCount recordCount variableOf recordOf tableOf recordAt root isChoice choiceCount scaleOf scale walk truth settlings weight sum total scoreFrom score assignments every implies completions openTaken openCount takenCount cost isOpen leaves upperBound derivative derivatives passes noneOf passing forced forcedPlan countOf forcedCount takesFirst ranksBefore better firstRanked isCandidate select bestPlan beaten goesBack lowestOpen visit visited visitCount placeZero firstPlace jobFault lengthFault isHeading headingFault countFault isVariableWord variableFault choiceFault scaleFault positionOf isChild isRecordWord recordFault isMonotoneAt monotoneFault planLengthFault planMarkFault fullPlanFault percentFault budgetFault bufferFault jobChecks tableChecks scoreChecks sweepChecks filterChecks searchChecks checked written reading readOutcome scoreOutcome sweepOutcome sweepBuffer filtering filterOutcome filterBuffer searching searchOutcome searchBuffer digits decimal refusedWord choicesWord scaleWord kitsWord scoreWord visitsWord takeWord leftWord line markLines refusalText planText searchText jobOutcome programOutcome printout
+-- Each request has the answer that document 01 gives, or paper 1 or 2 of document 02
+pub starredHold : map (λ c. map answerTo (c .requests)) (starred ++ paper1 ++ paper2) ≡ map (λ c. c .answers) (starred ++ paper1 ++ paper2)
+unfolding starred paper1 paper2 lineOne bothLines tooManyKits answerTo tableA certainA river0 river1 twoWays tableB allOpen numbers wordAt sequence variableCount recordCount variableOf recordOf kitsOf tableOf recordAt root isChoice choiceCount scaleOf scale walk truth settlings weight sum total scoreFrom score assignments every implies completions openTaken openCount costOf cost isOpen leaves upperBound derivative derivatives passes noneOf passing forced forcedPlan countOf forcedCount takesFirst ranksBefore better firstRanked isCandidate select bestPlan beaten goesBack lowestOpen visit visited visitCount placeZero firstPlace jobFault lengthFault isHeading headingFault countFault isVariableWord variableFault choiceFault scaleFault positionOf isChild isRecordWord recordFault isMonotoneAt monotoneFault planLengthFault planMarkFault fullPlanFault percentFault budgetFault bufferFault jobChecks tableChecks scoreChecks sweepChecks filterChecks searchChecks checked written reading readOutcome scoreOutcome sweepOutcome sweepBuffer filtering filterOutcome filterBuffer searching searchOutcome searchBuffer digits decimal refusedWord choicesWord scaleWord kitsWord scoreWord visitsWord takeWord leftWord line markLines refusalText planText searchText jobOutcome jobKits programOutcome printout
 starredHold = refl
 
 -- What the filter answers for table A at 0, 1 .. 100 percent. Paper 1: "50 forces nothing; 60 forces line 1 only; 80 forces both; 31 first comes at 81"
@@ -156,5 +232,5 @@ everyPercentage =
     ++ replicate 20 (refused 31 0)
 
 pub percentagesHold : map answerTo (sequence (filtered tableA allOpen) 0 101) ≡ everyPercentage
-unfolding everyPercentage answerTo tableA allOpen numbers wordAt sequence variableCount recordCount variableOf recordOf tableOf recordAt root isChoice choiceCount scaleOf scale walk truth settlings weight sum total scoreFrom score assignments every implies completions isOpen leaves passes noneOf passing forced forcedPlan countOf forcedCount placeZero firstPlace lengthFault isHeading headingFault countFault isVariableWord variableFault choiceFault scaleFault positionOf isChild isRecordWord recordFault isMonotoneAt monotoneFault planLengthFault planMarkFault percentFault bufferFault tableChecks filterChecks checked reading filtering filterOutcome
+unfolding everyPercentage answerTo tableA allOpen numbers wordAt sequence variableCount recordCount variableOf recordOf kitsOf tableOf recordAt root isChoice choiceCount scaleOf scale walk truth settlings weight sum total scoreFrom score assignments every implies completions isOpen leaves passes noneOf passing forced forcedPlan countOf forcedCount placeZero firstPlace lengthFault isHeading headingFault countFault isVariableWord variableFault choiceFault scaleFault positionOf isChild isRecordWord recordFault isMonotoneAt monotoneFault planLengthFault planMarkFault percentFault bufferFault tableChecks filterChecks checked reading filtering filterOutcome
 percentagesHold = refl

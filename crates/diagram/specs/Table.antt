@@ -23,10 +23,11 @@ pub record Record : Type 0 where
   pub hi : ℕ
   pub lo : ℕ
 
--- The variables by position, and the records in file order
+-- The variables by position, the records in file order, and the kits that each choice takes, by choice number
 pub record Table : Type 0 where
   pub variables : List Variable
   pub records : List Record
+  pub kits : List ℕ
 
 -- V, the number of variables: P of the heading
 unfoldable pub variableCount : List ℕ → ℕ
@@ -44,12 +45,18 @@ variableOf w = cond (eqb (kind w) 2) choice (chance (fieldQ w) (fieldR w))
 unfoldable pub recordOf : ℕ → Record
 recordOf w = record { position = fieldP w; hi = fieldQ w; lo = fieldR w }
 
+-- The kits of the choices among some variable words, in order. Document 02, paper 2: "A choice word's R now holds its kits less one"
+unfoldable pub kitsOf : List ℕ → List ℕ
+kitsOf [] = []
+kitsOf (w ∷ ws) = cond (eqb (kind w) 2) ((fieldR w + 1) ∷ kitsOf ws) (kitsOf ws)
+
 -- "A file is one heading, V variable words with positions 0 to V-1 in order, then N records"
 unfoldable pub tableOf : List ℕ → Table
 tableOf s =
     record {
       variables = sequence (λ i. variableOf (wordAt s i)) 1 (variableCount s);
       records = sequence (λ i. recordOf (wordAt s i)) (1 + variableCount s) (recordCount s);
+      kits = kitsOf (sequence (wordAt s) 1 (variableCount s));
     }
 
 -- Record k, from 0. Past the last record it is one of zeros, which no check lets a walk reach.

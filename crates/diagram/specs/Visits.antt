@@ -20,10 +20,11 @@ unfoldable pub beaten : Table → Option (List ℕ) → ℕ → Bool
 beaten t none x = false
 beaten t (some b) x = ltb x (score t b)
 
--- "It goes back if more lines are taken than kits, if the top does not pass, or if a best plan is held and the top is less than its score."
+-- "It goes back if more lines are taken than kits, if the top does not pass, or if a best plan is held and the top is less than its score", where the sum
+-- of kits is read for the number of lines
 unfoldable pub goesBack : Table → (budget percent : ℕ) → List ℕ → Option (List ℕ) → Bool
 goesBack t budget percent p held =
-    ltb budget (cost p) || not (passes t percent (upperBound t p)) || beaten t held (upperBound t p)
+    ltb budget (cost t p) || not (passes t percent (upperBound t p)) || beaten t held (upperBound t p)
 
 -- "the lowest open choice"
 unfoldable pub lowestOpen : List ℕ → ℕ

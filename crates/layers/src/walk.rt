@@ -1,5 +1,4 @@
 // The walk of a visit over one layer: from the line before to an open line, and over that line's own nodes.
-use crate::chains::wide;
 ghost use mathlib.Core.Path.{_≡_};
 ghost use Prim.Native.Nat.{ℕ, suc, _+_, _-_, _*_, _≤_, _<_, _^_};
 ghost use lib.ListN.{length, getD};
@@ -13,7 +12,7 @@ pub fn enter_layer(
     sources: &[u16; 1024],
     arcs: &[u64; 1024],
     losses: &[u64; 256],
-    lines: &[u8; 64],
+    lines: &[u16; 84],
     cells: &mut [u64; 512],
     unsettled: usize,
 ) -> u64
@@ -75,17 +74,24 @@ fn enter(
 
 // Leaves the lowest of `unsettled` open lines: what its nodes have handed on by their hi arcs goes by their lo arcs.
 // `visit` hands in the ranks of a layout.
-pub fn leave_layer(lines: &[u8; 64], cells: &mut [u64; 512], unsettled: usize)
+pub fn leave_layer(lines: &[u16; 84], cells: &mut [u64; 512], unsettled: usize)
     requires { ⌜ (1 ≤ unsettled) × (unsettled ≤ 20) × (length (now cells) ≡ 512) × (getD (now lines) (unsettled + 21) 0 ≤ getD (now lines) (unsettled - 1) 0) × (getD (now lines) (unsettled - 1) 0 ≤ 254) ⌝ }
     ensures { λ _. ⌜ now (cells .exit) ≡ leaveNodes (getD (now (lines .entry)) (unsettled + 21) 0) (getD (now (lines .entry)) (unsettled - 1) 0 - getD (now (lines .entry)) (unsettled + 21) 0) (now (cells .entry)) ⌝ }
 {
-    let to = wide(lines[unsettled - 1]);
-    let mut i = wide(lines[unsettled + 21]);
+    let to = index(lines[unsettled - 1]);
+    let mut i = index(lines[unsettled + 21]);
     while i < to {
         let w = cells[i + 2];
         put_both(cells, i, 0, w);
         i += 1;
     }
+}
+
+// A rank as an index.
+fn index(rank: u16) -> usize
+    ensures { λ r. ⌜ r ≡ rank ⌝ }
+{
+    rank as usize
 }
 
 // Writes the two cells of the node at a rank.

@@ -1,20 +1,22 @@
 -- What is printed for a job, from what reading and the search answer, and from what the job word says. Assumes nothing.
-use Prim.Native.Nat.{ℕ, zero, suc, _/_, _≤_, min}
+use Prim.Native.Nat.{ℕ, zero, suc, _-_, _/_, _≤_, min}
 use native.Mathlib.Decide.{decLt}
 use native.Mathlib.Omega.{arith}
 use mathlib.Core.Path.{_≡_, refl, ap, sym, _∙_}
-use mathlib.Core.List.{List, _∷_}
+use mathlib.Core.List.{List, _∷_, _++_}
 use mathlib.Core.Logic.{by-cases}
 use lib.ListN.{length, take, drop, replicate}
 use lib.Seq.{take-take}
 use borrow.Author.Tests.{eq-eqb, ne-eqb, le-ltb}
-use Rattle.diagram.specs.Words.{wordAt, kind, fieldP, fieldQ, fieldR}
+use Rattle.diagram.specs.Words.{wordAt, kind, fieldR}
 use Rattle.diagram.specs.Table.{tableOf, choiceCount, scale}
+use Rattle.diagram.specs.Plans.{costOf, cost}
 use Rattle.diagram.specs.Checks.{placeZero, jobFault, jobChecks, searchChecks}
 use Rattle.diagram.specs.Services.{refused, Reading, reading, readOutcome, searchOutcome}
-use Rattle.diagram.specs.Printout.{refusalText, planText, searchText, jobOutcome, programOutcome, printout}
+use Rattle.diagram.specs.Printout.{refusalText, planText, searchText, jobOutcome, jobKits, programOutcome, printout}
 use Rattle.diagram.specs.declared.refusal.Refusal.{Refusal}
 use Rattle.diagram.proofs.Checked.{checked-passes, checked-stops, checked-end, read-refuses}
+use Rattle.cost.proofs.Kits.{kits-length, cost-padded}
 use Rattle.reading.specs.declared.answer.Summary.{Summary}
 use Rattle.reading.specs.declared.answer.ReadAnswer.{ReadAnswer}
 use Rattle.reading.specs.Answer.{outcomeOf}
@@ -70,9 +72,9 @@ module _ (s : List ℕ) (budget percent : ℕ) where
     job-refused x e = rw (← job-searched, e) refl
 
     -- a plan that is found
-    pub job-found : (f : Finding) → r ≡ Found f → {choices b : ℕ} → choices ≡ choiceCount (tableOf s .variables) → b ≡ scale (tableOf s) → searchText (tableOf s) (jobOutcome s budget percent) ≡ fullText choices b (f .score) (f .visits) out
+    pub job-found : (f : Finding) → r ≡ Found f → {choices b c : ℕ} → choices ≡ choiceCount (tableOf s .variables) → b ≡ scale (tableOf s) → c ≡ cost (tableOf s) out → searchText (tableOf s) (jobOutcome s budget percent) ≡ fullText choices b c (f .score) (f .visits) out
     unfolding searchOf searchText planText fullText tableText foundText
-    job-found f e ec eb = rw (← job-searched, e, ec, eb) refl
+    job-found f e ec eb ek = rw (← job-searched, e, ec, eb, ek) refl
 
 -- ---------------------------------------------------------------------------
 -- The job word
@@ -91,19 +93,21 @@ module _ (input : List ℕ) {w k : ℕ} (word : w ≡ wordAt input 0) (kinds : k
   unfolding programOutcome jobChecks jobFault placeZero
   job-kind f = checked-stops _ _ _ input 0 (rw (← word, ne-eqb (kind w) 5 (λ e. f (kinds ∙ e))) refl)
 
-  module _ {q : ℕ} (field : q ≡ fieldQ w) (five : k ≡ 5) where
-    -- so is any other Q than 0
-    pub job-field : (q ≡ 0 → ⊥) → programOutcome input ≡ refused 10 0
-    unfolding programOutcome jobChecks jobFault placeZero
-    job-field f = checked-stops _ _ _ input 0 (rw (← word, eq-eqb (kind w) 5 (sym kinds ∙ five), ne-eqb (fieldQ w) 0 (λ e. f (field ∙ e))) refl)
+  -- of a job the table that follows is searched, with its kits and R
+  pub job-taken : k ≡ 5 → {b p : ℕ} → b ≡ jobKits w → p ≡ fieldR w → programOutcome input ≡ jobOutcome (drop 4 input) b p
+  unfolding programOutcome jobChecks jobFault placeZero
+  job-taken five eb ep =
+      checked-passes _ _ _ input (rw (← word, eq-eqb (kind w) 5 (sym kinds ∙ five)) refl)
+      ∙ checked-end _ input
+      ∙ rw (eb, ep, word) refl
 
-    -- and else the table that follows is searched with P and R
-    pub job-taken : q ≡ 0 → {b p : ℕ} → b ≡ fieldP w → p ≡ fieldR w → programOutcome input ≡ jobOutcome (drop 4 input) b p
-    unfolding programOutcome jobChecks jobFault placeZero
-    job-taken e eb ep =
-        checked-passes _ _ _ input (rw (← word, eq-eqb (kind w) 5 (sym kinds ∙ five), eq-eqb (fieldQ w) 0 (sym field ∙ e)) refl)
-        ∙ checked-end _ input
-        ∙ rw (eb, ep, word) refl
+-- ---------------------------------------------------------------------------
+-- The printed kits
+
+-- what the plan printed costs, from the kits of the file in an array
+pub cost-is : (s p kits : List ℕ) → kits ≡ tableOf s .kits ++ replicate (20 - length (tableOf s .kits)) 0 → length p ≡ choiceCount (tableOf s .variables) → costOf kits p ≡ cost (tableOf s) p
+unfolding cost
+cost-is s p kits e long = rw e (cost-padded (tableOf s .kits) _ p (long ∙ sym (kits-length s)))
 
 -- at most 1,265 bytes are read
 pub printed : (input : List ℕ) {read a b : List ℕ} {j : ℕ} → read ≡ take 1265 input → Wrote a 0 b j (searchText (tableOf (drop 4 read)) (programOutcome read)) → Wrote a 0 b j (printout input)

@@ -5,7 +5,6 @@ use mathlib.Core.Bool.{cond}
 use mathlib.Core.List.{List, _++_}
 use lib.ListN.{length, take, drop}
 use Rattle.diagram.specs.Score.{isTaken}
-use Rattle.diagram.specs.Plans.{cost}
 use Rattle.diagram.specs.Printout.{decimal, choicesWord, scaleWord, kitsWord, scoreWord, visitsWord, takeWord, leftWord, line, markLines}
 
 -- x is written from place `at` on, up to place `end`, and what stands before and after is kept
@@ -28,6 +27,6 @@ unfoldable pub markText : (i m : ℕ) → List ℕ
 markText i m = line (decimal i ++ cond (isTaken m) takeWord leftWord)
 
 -- The whole printout of a plan
-unfoldable pub fullText : (choices scale score visits : ℕ) → List ℕ → List ℕ
-fullText choices scale score visits p =
-    tableText choices scale ++ foundText (cost p) score visits ++ markLines 0 p
+unfoldable pub fullText : (choices scale cost score visits : ℕ) → List ℕ → List ℕ
+fullText choices scale c score visits p =
+    tableText choices scale ++ foundText c score visits ++ markLines 0 p

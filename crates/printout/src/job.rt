@@ -1,6 +1,8 @@
 // From the bytes that the program reads to the text that it prints: a job word, then a table.
 use crate::text::put_plan;
 use crate::text::put_refusal;
+use cost::cost_of;
+use cost::kits_of;
 use diagram::Plan;
 use diagram::field_p;
 use diagram::field_q;
@@ -16,7 +18,7 @@ ghost use mathlib.Core.List.{_++_};
 ghost use Prim.Native.Nat.{_-_, _≤_};
 ghost use lib.ListN.{length, take, drop, replicate};
 ghost use Rattle.diagram.specs.Table.{tableOf};
-ghost use Rattle.diagram.specs.Printout.{searchText, jobOutcome, programOutcome, printout};
+ghost use Rattle.diagram.specs.Printout.{searchText, jobOutcome, jobKits, programOutcome, printout};
 ghost use Rattle.printout.specs.Writing.{Wrote};
 
 // The text printed: the first `count` bytes, in ASCII. The rest is zeros.
@@ -68,10 +70,14 @@ fn put_job(out: &mut [u8], input: &[u8]) -> usize
     if kind(job) != 5 {
         return put_refusal(out, 10, 0);
     }
-    if field_q(job) != 0 {
-        return put_refusal(out, 10, 0);
-    }
-    put_search(out, &input[4..], field_p(job), field_r(job))
+    put_search(out, &input[4..], job_kits(job), field_r(job))
+}
+
+// The kits of a job word: at most 131,071.
+fn job_kits(job: u32) -> u32
+    ensures { λ r. ⌜ r ≡ jobKits job ⌝ }
+{
+    field_p(job) + 64 * field_q(job)
 }
 
 // Writes what is printed for a table, kits and a percentage: the search from the fully open plan. The buffer is `print`'s.
@@ -91,12 +97,7 @@ fn put_search(out: &mut [u8], file: &[u8], budget: u32, percent: u32) -> usize
         SearchAnswer::Found(f) => f,
         SearchAnswer::Refused(r) => return put_refusal(out, r.number, r.place),
     };
-    put_plan(
-        out,
-        t.choices,
-        t.scale,
-        found.score,
-        found.visits,
-        &plan[..n],
-    )
+    let written = &plan[..n];
+    let cost = cost_of(written, &kits_of(file));
+    put_plan(out, t, found, cost, written)
 }

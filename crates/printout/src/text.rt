@@ -2,10 +2,10 @@
 // calls has the room that it asks for.
 use crate::decimal::put_decimal;
 use diagram::Plan;
-ghost use mathlib.Core.Path.{_≡_};
+use reading::Summary;
+use search::Finding;
 ghost use Prim.Native.Nat.{_+_, _*_, _≤_, _<_};
 ghost use lib.ListN.{length};
-ghost use Rattle.diagram.specs.Plans as plans;
 ghost use Rattle.diagram.specs.Printout.{refusalText, markLines};
 ghost use Rattle.printout.specs.Writing.{Wrote, tableText, foundText, markText, fullText};
 
@@ -36,19 +36,12 @@ pub fn put_refusal(out: &mut [u8], number: u8, place: usize) -> usize
 }
 
 // Writes the three parts of a plan's printout.
-pub fn put_plan(
-    out: &mut [u8],
-    choices: usize,
-    scale: u64,
-    score: u64,
-    visits: u64,
-    plan: &[u8],
-) -> usize
+pub fn put_plan(out: &mut [u8], t: Summary, found: Finding, cost: u64, plan: &[u8]) -> usize
     requires { ⌜ (length (now plan) ≤ 20) × (700 ≤ length (now out)) ⌝ }
-    ensures { λ r. ⌜ Wrote (now (out .entry)) 0 (now (out .exit)) r (fullText choices scale score visits (now (plan .entry))) ⌝ }
+    ensures { λ r. ⌜ Wrote (now (out .entry)) 0 (now (out .exit)) r (fullText (t .choices) (t .scale) cost (found .score) (found .visits) (now (plan .entry))) ⌝ }
 {
-    let a = put_table(out, choices as u64, scale);
-    let b = put_found(out, a, taken_count(plan), score, visits);
+    let a = put_table(out, t.choices as u64, t.scale);
+    let b = put_found(out, a, cost, found.score, found.visits);
     put_marks(out, b, plan)
 }
 
@@ -105,20 +98,4 @@ fn put_mark(out: &mut [u8], at: usize, choice: usize, mark: u8) -> usize
         put_word(out, a, b" left")
     };
     put_word(out, b, b"\n")
-}
-
-// How many lines a plan takes.
-fn taken_count(plan: &[u8]) -> u64
-    requires { ⌜ length (now plan) ≤ 20 ⌝ }
-    ensures { λ r. ⌜ r ≡ plans.cost (now (plan .entry)) ⌝ }
-{
-    let mut count = 0;
-    let mut i = 0;
-    while i < plan.len() {
-        if plan[i] == Plan::TAKEN {
-            count += 1;
-        }
-        i += 1;
-    }
-    count
 }

@@ -63,7 +63,7 @@ passed-monotone {s} h k =
 word-shares : (i w : ℕ) {vs : List Variable} → isVariableWord i w ≡ true → Shares vs → Shares (variableOf w ∷ vs)
 unfolding isVariableWord variableOf
 word-shares i w {vs} h rest =
-    go (eqb (kind w) 2) (eqb (fieldQ w) 0) (eqb (fieldR w) 0) (eqb (kind w) 3) (fieldQ w) (fieldR w) (both (eqb (fieldP w) i) h .1)
+    go (eqb (kind w) 2) (eqb (fieldQ w) 0) (leb (fieldR w) 500) (eqb (kind w) 3) (fieldQ w) (fieldR w) (both (eqb (fieldP w) i) h .1)
   where
     go : (b x y c : Bool) (p q : ℕ) → (b && x && y || c && (leb 1 q && leb q 1000) && leb p q) ≡ true → Shares (cond b choice (chance p q) ∷ vs)
     go true x y c p q e = choice-shares rest

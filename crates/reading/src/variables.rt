@@ -45,7 +45,7 @@ fn is_variable_word(at: Position, w: u32) -> bool
         if a != 0 {
             return false;
         }
-        return b == 0;
+        return b <= 500;
     }
     if kind(w) != 3 {
         return false;

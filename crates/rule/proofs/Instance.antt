@@ -11,7 +11,7 @@ use borrow.Author.Tests.{le-ltb, ne-eqb}
 use lib.ListN.{length, set}
 use Rattle.diagram.specs.Table.{Table}
 use Rattle.diagram.specs.Score.{score}
-use Rattle.diagram.specs.Plans.{openTaken, openCount, isOpen, takenCount, cost, upperBound, derivative, passes}
+use Rattle.diagram.specs.Plans.{openTaken, openCount, isOpen, costOf, cost, upperBound, derivative, passes}
 use Rattle.diagram.specs.Ranking.{ranksBefore, better}
 use Rattle.diagram.specs.Visits as visits
 use Rattle.diagram.specs.Visits.{Tally, lowestOpen, visit}
@@ -24,13 +24,15 @@ use Rattle.rule.proofs.Opening.{lowest-open, open-count-set}
 -- The terms
 
 -- a completion costs no less than the plan
-pub cost-completes : {p c : List ℕ} → Completes p c → cost p ≤ cost c
-unfolding cost takenCount
-cost-completes complete = le-refl 0
-cost-completes (takes k) = omega (arith, cost-completes k)
-cost-completes (leaves-open k) = cost-completes k
-cost-completes (keeps {m = zero} k) = omega (arith, cost-completes k)
-cost-completes (keeps {m = suc m} k) = cost-completes k
+pub cost-completes : (kits : List ℕ) {p c : List ℕ} → Completes p c → costOf kits p ≤ costOf kits c
+unfolding costOf
+cost-completes kits complete = le-refl 0
+cost-completes [] (takes k) = le-refl 0
+cost-completes [] (leaves-open k) = le-refl 0
+cost-completes [] (keeps k) = le-refl 0
+cost-completes (x ∷ kits) (takes k) = omega (arith, cost-completes kits k)
+cost-completes (x ∷ kits) (leaves-open k) = omega (arith, cost-completes kits k)
+cost-completes (x ∷ kits) (keeps k) = omega (arith, cost-completes kits k)
 
 -- a plan with no line open is unchanged by taking the open lines
 pub full-taken : (p : List ℕ) → openCount p ≡ 0 → openTaken p ≡ p
@@ -48,11 +50,11 @@ larger-held t b c l =
 module _ (t : Table) (formed : Formed (length (t .variables)) (t .records)) (monotone : Monotone t) (budget percent : ℕ) where
   -- document 01's terms are bounding
   pub terms-bounding : Bounding (terms t budget percent)
-  unfolding terms upperBound
+  unfolding terms cost upperBound
   terms-bounding =
       record {
         bounds = completion-le-bound t formed monotone;
-        costs = cost-completes;
+        costs = cost-completes (t .kits);
         exact = λ p e. rw (full-taken p e);
         rises = larger-passes t percent;
         holds = larger-held t;

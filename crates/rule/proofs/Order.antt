@@ -85,8 +85,8 @@ first-total (keeps {m} k) (keeps l) = first-same (suc m) (first-total k l)
 -- The three ways in which p ranks before q
 pub data Before (t : Table) (p q : List ℕ) : Type 0 where
   higher : score t q < score t p → Before t p q
-  fewer : score t p ≡ score t q → cost p < cost q → Before t p q
-  first : score t p ≡ score t q → cost p ≡ cost q → takesFirst p q ≡ true → Before t p q
+  fewer : score t p ≡ score t q → cost t p < cost t q → Before t p q
+  first : score t p ≡ score t q → cost t p ≡ cost t q → takesFirst p q ≡ true → Before t p q
 
 -- what a test of two numbers and then of others says
 less-or : (a b c d : ℕ) {r : Bool} → (ltb a b || eqb c d && r) ≡ true → (a < b) ⊎ ((c ≡ d) × (r ≡ true))
@@ -103,20 +103,20 @@ unfolding ranksBefore
 ranks {t} {p} {q} h =
     ⊎-elim
     higher
-    (λ s. ⊎-elim (fewer (s .0)) (λ k. first (s .0) (k .0) (k .1)) (less-or (cost p) (cost q) (cost p) (cost q) (s .1)))
+    (λ s. ⊎-elim (fewer (s .0)) (λ k. first (s .0) (k .0) (k .1)) (less-or (cost t p) (cost t q) (cost t p) (cost t q) (s .1)))
     (less-or (score t q) (score t p) (score t p) (score t q) h)
 
 ranked : {t : Table} {p q : List ℕ} → Before t p q → ranksBefore t p q ≡ true
 unfolding ranksBefore
 ranked {t} {p} {q} (higher l) = rw (lt-ltb (score t q) (score t p) l)
-ranked {t} {p} {q} (fewer e l) = simp (eq-eqb (score t p) (score t q) e, lt-ltb (cost p) (cost q) l, or-true)
-ranked {t} {p} {q} (first e f h) = simp (eq-eqb (score t p) (score t q) e, eq-eqb (cost p) (cost q) f, h, or-true)
+ranked {t} {p} {q} (fewer e l) = simp (eq-eqb (score t p) (score t q) e, lt-ltb (cost t p) (cost t q) l, or-true)
+ranked {t} {p} {q} (first e f h) = simp (eq-eqb (score t p) (score t q) e, eq-eqb (cost t p) (cost t q) f, h, or-true)
 
 -- no plan ranks before itself
 pub ranks-irreflexive : (t : Table) (p : List ℕ) → ranksBefore t p p ≡ false
 unfolding ranksBefore
 ranks-irreflexive t p =
-    simp (le-ltb (score t p) (score t p) (le-refl _), le-ltb (cost p) (cost p) (le-refl _), first-irreflexive p, and-false)
+    simp (le-ltb (score t p) (score t p) (le-refl _), le-ltb (cost t p) (cost t p) (le-refl _), first-irreflexive p, and-false)
 
 -- a plan that ranks before a second ranks before all that the second ranks before
 pub ranks-transitive : (t : Table) (p q r : List ℕ) → ranksBefore t p q ≡ true → ranksBefore t q r ≡ true → ranksBefore t p r ≡ true
@@ -144,10 +144,10 @@ ranks-total t {c} {d} k l =
     (score t c)
     (score t d)
     (λ a. inr (inr (ranked (higher a))))
-    (λ a. by-order (cost c) (cost d) (λ x. inl (ranked (fewer a x))) (λ x. go a x (first-total k l)) (λ x. inr (inr (ranked (fewer (sym a) x)))))
+    (λ a. by-order (cost t c) (cost t d) (λ x. inl (ranked (fewer a x))) (λ x. go a x (first-total k l)) (λ x. inr (inr (ranked (fewer (sym a) x)))))
     (λ a. inl (ranked (higher a)))
   where
-    go : score t c ≡ score t d → cost c ≡ cost d → Compared takesFirst c d → Compared (ranksBefore t) c d
+    go : score t c ≡ score t d → cost t c ≡ cost t d → Compared takesFirst c d → Compared (ranksBefore t) c d
     go a x (inl h) = inl (ranked (first a x h))
     go a x (inr (inl e)) = inr (inl e)
     go a x (inr (inr h)) = inr (inr (ranked (first (sym a) (sym x) h)))

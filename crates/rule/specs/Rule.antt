@@ -30,7 +30,7 @@ unfoldable pub terms : Table → (budget percent : ℕ) → Terms
 terms t budget percent =
     record {
       bound = plans.upperBound t;
-      cost = plans.cost;
+      cost = plans.cost t;
       score = scores.score t;
       budget = budget;
       passes = plans.passes t percent;

@@ -11,13 +11,14 @@ use lib.ListN.{length, getD, set, replicate, length-set, List·getD-append}
 use lib.Seq.{getD-set-other, set-append-left, set-getD, set-set}
 use borrow.Author.Tests.{eqb-true}
 use Rattle.diagram.specs.Table.{choiceCount}
-use Rattle.diagram.specs.Plans.{openCount, upperBound, isOpen}
+use Rattle.diagram.specs.Plans.{openCount, cost, upperBound, isOpen}
 use Rattle.diagram.specs.Visits.{lowestOpen}
+use Rattle.cost.proofs.Kits.{cost-taken, cost-left}
 use Rattle.rule.proofs.Opening.{open-count-set}
 use Rattle.layers.specs.Layers.{Layers, passNodes, ownNodes, dropSum, leaveNodes, Enterable}
 use Rattle.layers.specs.Flows.{Line, Settles, Same}
 use Rattle.search.specs.State.{padded, openLines, numbersFrom, Scene, Ground, Stands}
-use Rattle.search.proofs.OpenLines.{lines-none, lines-lowest, lines-count, lines-within, lines-open, lines-marked, cost-taken, cost-left, taken-same}
+use Rattle.search.proofs.OpenLines.{lines-none, lines-lowest, lines-count, lines-within, lines-open, lines-marked, taken-same}
 use Rattle.layers.proofs.Weights.{drop-top}
 use Rattle.layers.proofs.Flows as flows
 use Rattle.layers.proofs.Flows.{same-fewer, same-trans}
@@ -101,6 +102,7 @@ module _ {g : Scene} {l : Layers} {losses lines : List ℕ} (ground : Ground g l
         few = ground .few;
         layered = ground .layered;
         layer = ground .layer;
+        priced = ground .priced;
       }
 
   module _ {cells marks : List ℕ} {n room bound : ℕ} (stands : Stands g lines cells marks n room bound) where
@@ -156,6 +158,12 @@ module _ {g : Scene} {l : Layers} {losses lines : List ℕ} (ground : Ground g l
           let begins : n - 1 + 22 ≡ n + 21 = omega (arith, more) in
           let number : n - 1 + 43 ≡ n + 42 = omega (arith, more) in
           rw (some, begins, number) at (ground .layer (n - 1) (omega (arith, more, stands .few)))
+
+      -- its kits
+      line-price : getD lines (n - 1 + 64) 0 ≡ getD (g .table .kits) d 0
+      line-price =
+          let number : n - 1 + 43 ≡ n + 42 = omega (arith, more) in
+          rw number at (ground .priced (n - 1) (omega (arith, more, stands .few)))
 
       -- its layer may be left
       pub leavable : (own ≤ to) × (to ≤ 254)
@@ -221,8 +229,8 @@ module _ {g : Scene} {l : Layers} {losses lines : List ℕ} (ground : Ground g l
             (omega (arith, drop, top, stands .bounded), omega (arith, drop, top, stands .bounded))
 
         -- the plan with the line taken
-        pub taken-stands : (held : Option (List ℕ)) → Stands (marked g d 1 held) lines entered (set marks d 1) (n - 1) (room - 1) bound
-        unfolding upperBound
+        pub taken-stands : (held : Option (List ℕ)) → Stands (marked g d 1 held) lines entered (set marks d 1) (n - 1) (room - getD lines (n - 1 + 64) 0) bound
+        unfolding upperBound cost
         taken-stands held =
             let same = taken-same (g .plan) d line-open in
             record {
@@ -230,7 +238,7 @@ module _ {g : Scene} {l : Layers} {losses lines : List ℕ} (ground : Ground g l
               marked = marked-marks 1;
               listed = listed-marked 0;
               few = omega (arith, stands .few);
-              affords = omega (arith, stands .affords, cost-taken (g .plan) d line-open);
+              affords = omega (arith, stands .affords, cost-taken (g .table .kits) (g .plan) d line-open, line-price);
               bounded = rw same (stands .bounded);
               right = rw same (flows.entered-right (ground .layered) (stands .settles) line-layer line-lowest line-open cells long (stands .rooted) (stands .right));
               rooted = entered-same .root ∙ stands .rooted;
@@ -261,13 +269,14 @@ module _ {g : Scene} {l : Layers} {losses lines : List ℕ} (ground : Ground g l
 
             -- the plan with the line left
             pub left-stands : (held : Option (List ℕ)) → Stands (marked g d 2 held) lines leftCells (set marks d 2) (n - 1) room (bound - lost)
+            unfolding cost
             left-stands held =
                 record {
                   settles = settles-marked 1;
                   marked = marked-marks 2;
                   listed = listed-marked 1;
                   few = omega (arith, stands .few);
-                  affords = rw (cost-left (g .plan) d line-open) (stands .affords);
+                  affords = rw (cost-left (g .table .kits) (g .plan) d line-open) (stands .affords);
                   bounded = lost-bound .1;
                   right = flows.left-right (ground .layered) (stands .settles) line-layer line-lowest line-open cells long (stands .rooted) (stands .right) cells′ long′ same;
                   rooted = left-same .root ∙ same-before .root ∙ stands .rooted;

@@ -1,4 +1,5 @@
 -- Laws of the search.
+pub mod Priced
 pub mod Rows
 pub mod OpenLines
 pub mod Tallying

@@ -7,7 +7,7 @@ use mathlib.Core.Bool.{true, false≢true}
 use mathlib.Core.List.{List, [], _∷_}
 use lib.ListN.{length, set}
 use borrow.Author.Tests.{eqb-true}
-use Rattle.diagram.specs.Plans.{openTaken, openCount, takenCount, cost, isOpen}
+use Rattle.diagram.specs.Plans.{openTaken, openCount, isOpen}
 use Rattle.diagram.specs.Visits.{lowestOpen}
 use Rattle.rule.proofs.Opening.{lowest-open}
 use Rattle.search.specs.State.{openFrom, openLines}
@@ -61,25 +61,6 @@ module _ (p : List ℕ) (d : ℕ) (ds : List ℕ) (e : openLines p ≡ d ∷ ds)
   pub lines-marked : (m : ℕ) → openLines (set p d (suc m)) ≡ ds
   unfolding openLines
   lines-marked m = rw (← lines-lowest) (lowest-marked 0 p d ds e m)
-
--- taking an open line charges one kit, and leaving it none
-pub cost-taken : (p : List ℕ) (d : ℕ) → isOpen p d ≡ true → cost (set p d 1) ≡ cost p + 1
-unfolding cost takenCount isOpen
-cost-taken [] d o = absurd (false≢true o)
-cost-taken (zero ∷ p) zero o = omega arith
-cost-taken (suc m ∷ p) zero o = absurd (omega (arith, eqb-true (suc m) 0 o))
-cost-taken (zero ∷ p) (suc d) o = cost-taken p d o
-cost-taken (suc zero ∷ p) (suc d) o = omega (arith, cost-taken p d o)
-cost-taken (suc (suc m) ∷ p) (suc d) o = cost-taken p d o
-
-pub cost-left : (p : List ℕ) (d : ℕ) → isOpen p d ≡ true → cost (set p d 2) ≡ cost p
-unfolding cost takenCount isOpen
-cost-left [] d o = absurd (false≢true o)
-cost-left (zero ∷ p) zero o = refl
-cost-left (suc m ∷ p) zero o = absurd (omega (arith, eqb-true (suc m) 0 o))
-cost-left (zero ∷ p) (suc d) o = cost-left p d o
-cost-left (suc zero ∷ p) (suc d) o = ap suc (cost-left p d o)
-cost-left (suc (suc m) ∷ p) (suc d) o = cost-left p d o
 
 -- taking an open line changes nothing where all open lines are taken
 pub taken-same : (p : List ℕ) (d : ℕ) → isOpen p d ≡ true → openTaken (set p d 1) ≡ openTaken p

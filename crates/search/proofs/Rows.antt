@@ -1,5 +1,4 @@
--- A loop's step over the lines of a plan, from line i to the next: the open lines, and what the taken ones cost. Of the marks, the first n
--- are in use. Assumes that there are so many.
+-- A loop's step over the lines of a plan, from line i to the next: the open lines. Of the marks, the first n are in use. Assumes that there are so many.
 use Prim.Native.Nat.{ℕ, zero, suc, _+_, _≤_, _<_}
 use native.Mathlib.Numerals.{add-one}
 use native.Mathlib.Omega.{arith}
@@ -7,7 +6,6 @@ use mathlib.Core.Path.{_≡_, refl}
 use mathlib.Core.List.{List, [], _∷_, _++_, append-nil}
 use lib.ListN.{length, getD, set, take, drop, drop-of-length-le}
 use lib.Seq.{length-take-le, getD-take, drop-cons, append-snoc, take-suc-set}
-use Rattle.diagram.specs.Plans.{takenCount, cost}
 use Rattle.search.specs.State.{openFrom, openLines}
 
 -- ---------------------------------------------------------------------------
@@ -23,18 +21,6 @@ open-past : (i m : ℕ) (p : List ℕ) → (m ≡ 0 → ⊥) → openFrom i (m �
 unfolding openFrom
 open-past i zero p f = absurd (f refl)
 open-past i (suc m) p f = rw add-one refl
-
--- a taken line costs a kit
-cost-here : (m : ℕ) (p : List ℕ) → m ≡ 1 → cost (m ∷ p) ≡ 1 + cost p
-unfolding cost takenCount
-cost-here m p e = rw e (omega arith)
-
--- another line costs none
-cost-past : (m : ℕ) (p : List ℕ) → (m ≡ 1 → ⊥) → cost (m ∷ p) ≡ cost p
-unfolding cost takenCount
-cost-past zero p f = refl
-cost-past (suc zero) p f = absurd (f refl)
-cost-past (suc (suc m)) p f = refl
 
 -- ---------------------------------------------------------------------------
 -- Line i, where the lines before it are done
@@ -69,20 +55,3 @@ module _ (marks : List ℕ) (n i : ℕ) (long : n ≤ length marks) where
     pub found-all : n ≤ i → take count numbers ≡ openLines (take n marks)
     unfolding openFrom
     found-all l = rw (row-end l, append-nil) at found
-
-  -- ---------------------------------------------------------------------------
-  -- The cost, with t kits for the lines before line i
-
-  module _ (t : ℕ) (counted : cost (take n marks) ≡ t + cost (drop i (take n marks))) where
-    -- a taken line costs a kit more
-    pub counted-taken : i < n → getD marks i 0 ≡ 1 → cost (take n marks) ≡ t + 1 + cost (drop (i + 1) (take n marks))
-    counted-taken l e = omega (arith, rw (row-cons l, cost-here _ _ e) at counted)
-
-    -- another line costs none
-    pub counted-other : i < n → (getD marks i 0 ≡ 1 → ⊥) → cost (take n marks) ≡ t + cost (drop (i + 1) (take n marks))
-    counted-other l f = rw (row-cons l, cost-past _ _ f) at counted
-
-    -- at the end all are counted
-    pub counted-all : n ≤ i → t ≡ cost (take n marks)
-    unfolding cost takenCount
-    counted-all l = omega (arith, rw (row-end l) at counted)

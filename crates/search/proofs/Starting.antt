@@ -13,15 +13,16 @@ use mathlib.Core.List.{List, [], _∷_, _++_}
 use lib.ListN.{length, getD, set, take, drop, replicate, length-set, length-append, length-replicate, drop-of-length-le}
 use lib.Pow.{pow-mono}
 use lib.Seq.{getD-set-same, getD-set-other, take-length, take-append-seam, getD-drop, getD-take, length-take-le, drop-cons}
-use Rattle.diagram.specs.Table.{Variable, choice, chance, Table, sequence, tableOf, isChoice, choiceCount}
-use Rattle.diagram.specs.Plans.{openCount, cost, LeastPassing}
+use Rattle.diagram.specs.Table.{Variable, choice, chance, Table, sequence, tableOf, root, isChoice, choiceCount}
+use Rattle.diagram.specs.Plans.{openCount, costOf, cost, LeastPassing}
 use Rattle.diagram.specs.Visits as visits
 use Rattle.diagram.specs.declared.plan.Plan.{Plan}
 use Rattle.diagram.proofs.Places.{sequence-at}
 use Rattle.diagram.proofs.Checked.{Passed}
+use Rattle.cost.proofs.Kits.{cost-first}
 use Rattle.reading.proofs.Accepted.{passed-variables, passed-choices, passed-formed, passed-monotone}
 use Rattle.rule.proofs.Visiting.{visited-rule}
-use Rattle.scoring.specs.Value.{marksFrom}
+use Rattle.scoring.specs.Value.{marksFrom, gap, place}
 use Rattle.scoring.specs.Passes.{over, markOf, marksByPosition, Marked}
 use Rattle.scoring.proofs.Bounding.{marked}
 use Rattle.scoring.proofs.FullPlans.{Legal}
@@ -32,10 +33,9 @@ use Rattle.sweep.proofs.Leaving.{choices-later}
 use Rattle.layers.specs.Chains.{pick, joined, placed}
 use Rattle.layers.specs.Layers.{Layers}
 use Rattle.layers.specs.Flows.{Stand, Line}
-use Rattle.search.specs.State.{rows, padded, openFrom, openLines, choicePosition, Ranked, numbersFrom, Holds, Scene, Visitable, ruled, Visited, Arrays, Ending, Arranged, Explored}
+use Rattle.search.specs.State.{priced, rows, padded, openFrom, openLines, choicePosition, Ranked, numbersFrom, Holds, Scene, Visitable, ruled, Visited, Arrays, Ending, Arranged, Explored}
 use Rattle.search.proofs.OpenLines.{lines-length}
-use Rattle.layers.proofs.Joining.{over-less}
-use Rattle.layers.proofs.Chaining.{joined-few}
+use Rattle.search.proofs.Priced.{priced-formed, priced-monotone, priced-bound, priced-passing, priced-layered, priced-line}
 use Rattle.layers.proofs.Ordering.{nodesAt, position-below, ends-rising, ends-mono, before-position, at-position, after-position, position-sum}
 
 -- ---------------------------------------------------------------------------
@@ -227,7 +227,7 @@ module _ (t : Table) (s : List ℕ) (long : length s ≡ choiceCount (t .variabl
         let at = opened-at i h in
         (rw (number-at i h) (omega (arith, at .within, long)), rw (place-at i h) (omega (arith, at .stand .within)))
 
-    module _ {order ends lines : List ℕ} (ending : Ending t order ends) (ranked : Ranked count numbers places ends lines) where
+    module _ {order ends kits lines : List ℕ} (ending : Ending t order ends) (ranked : Ranked count numbers places ends kits lines) where
       own-at : (i n : ℕ) → i + (n + 1) ≡ count → getD lines (n + 22) 0 ≡ getD ends (choicePosition (t .variables) (getD (openLines s) i 0)) 0
       own-at i n e =
           let at : count - i + 21 ≡ n + 22 = omega arith in
@@ -242,6 +242,15 @@ module _ (t : Table) (s : List ℕ) (long : length s ≡ choiceCount (t .variabl
       line-at i n e =
           let at : count - i + 42 ≡ n + 43 = omega arith in
           rw (at, number-at i (omega arith)) at (ranked .number i (omega arith))
+
+      -- the kits of each open line
+      pub kits-ranked : (n : ℕ) → n < openCount s → getD lines (n + 64) 0 ≡ getD (take (length s) kits) (getD lines (n + 43) 0) 0
+      kits-ranked n h =
+          let i = count - (n + 1) in
+          let e : i + (n + 1) ≡ count = omega (arith, open-counted) in
+          let at : count - i + 63 ≡ n + 64 = omega arith in
+          rw (line-at i n e, getD-take (length s) kits (getD (openLines s) i 0) 0 (opened-at i (omega arith) .within))
+          (rw (at, number-at i (omega arith)) at (ranked .priced i (omega arith)))
 
       -- the layer of each open line
       pub layers-ranked : (n : ℕ) → n < openCount s → Line t s order (getD lines (n + 1) 0) (getD lines (n + 22) 0) (getD lines n 0) (getD lines (n + 43) 0)
@@ -280,11 +289,11 @@ handed-in p start few marks count =
       rw (marks, all, own, length-append, length-replicate) (omega arith),
     )
 
--- What is visited first
-abbrev pub firstScene : (s p order : List ℕ) → (percent budget least : ℕ) → Scene
-firstScene s p order percent budget least =
+-- What is visited first, where the lines take these kits
+abbrev pub firstScene : (kits s p order : List ℕ) → (percent budget least : ℕ) → Scene
+firstScene kits s p order percent budget least =
     record {
-      table = tableOf s;
+      table = priced (take (length p) kits) (tableOf s);
       start = p;
       order = order;
       percent = percent;
@@ -333,23 +342,26 @@ module _ {s p : List ℕ} (passed : Passed s) (long : length p ≡ choiceCount (
       numbers-few (tableOf s) p long count numbers places lists room (ready .chosen) (passed-choices passed) (omega (arith, passed-variables passed))
 
   -- all that the first visit is handed
-  pub first-visitable : {percent budget least weight bound kits : ℕ} {ends order losses lines cells marks best tally : List ℕ} {l : Layers} → Arranged (tableOf s) p weight bound ends order l losses → Ranked count numbers places ends lines → getD cells 1 0 ≡ weight → marks ≡ start .marks → kits ≡ budget + 1 - cost (rows start) → LeastPassing (tableOf s) percent least → Holds (tableOf s) budget least none best tally → Visitable (firstScene s p order percent budget least) l losses lines cells marks best tally count kits bound
-  first-visitable arranged ranked heavy same left passing holds =
+  pub first-visitable : {percent budget least weight bound left : ℕ} {ends order losses kits lines cells marks best tally : List ℕ} {l : Layers} → Arranged (tableOf s) p weight bound ends order l losses → Ranked count numbers places ends kits lines → getD cells 1 0 ≡ weight → marks ≡ start .marks → left ≡ budget + 1 - costOf kits p → LeastPassing (tableOf s) percent least → Holds (priced (take (length p) kits) (tableOf s)) budget least none best tally → Visitable (firstScene kits s p order percent budget least) l losses lines cells marks best tally count left bound
+  unfolding cost priced root gap place
+  first-visitable {kits} arranged ranked heavy same affords passing holds =
       let from = ranked .first in
+      let list = take (length p) kits in
       record {
         ground = record {
-          passing = passing;
+          passing = priced-passing list (tableOf s) _ _ passing;
           few = passed-choices passed;
-          layered = arranged .layered;
-          layer = layers-ranked (tableOf s) p long count numbers places lists room (ready .chosen) (arranged .ending) ranked;
+          layered = priced-layered list (tableOf s) (arranged .layered);
+          layer = λ n h. priced-line list (tableOf s) (layers-ranked (tableOf s) p long count numbers places lists room (ready .chosen) (arranged .ending) ranked n h);
+          priced = kits-ranked (tableOf s) p long count numbers places lists room (ready .chosen) (arranged .ending) ranked;
         };
         stands = record {
           settles = record { size = refl; kept = λ i f. refl; later = λ i h. refl };
           marked = same ∙ ready .handed .1;
           listed = open-ranked (tableOf s) p long count numbers places lists room (ready .chosen) (arranged .ending) ranked;
           few = omega (arith, open-counted (tableOf s) p long count numbers places lists room (ready .chosen));
-          affords = rw (ready .handed .0) at left;
-          bounded = arranged .bounded;
+          affords = rw (cost-first kits p) affords;
+          bounded = arranged .bounded ∙ sym (priced-bound list (tableOf s) p);
           right = rw from (record { high = λ j k h e. absurd (omega arith); low = λ j k h e. absurd (omega arith) });
           rooted = heavy ∙ arranged .weighs;
         };
@@ -361,9 +373,13 @@ module _ {s p : List ℕ} (passed : Passed s) (long : length p ≡ choiceCount (
   first-room e = omega (arith, e, pow-mono {i = suc count} {j = 21} (omega (arith, ready .listed .0)))
 
 -- what the first visit leaves is what document 01's search does
-pub first-explored : {s p : List ℕ} → Passed s → {percent budget least from counted : ℕ} {order cells marks cells′ marks′ best tally : List ℕ} → counted ≡ 0 → Visited (firstScene s p order percent budget least) from counted cells marks cells′ marks′ best tally → Explored (tableOf s) percent budget least p best tally
-first-explored {s} {p} passed {percent} {budget} {least} {from} {counted} {order} e v =
-    let done : ruled (firstScene s p order percent budget least) counted ≡ visits.visited (tableOf s) budget percent p = rw e (sym (visited-rule (tableOf s) (passed-formed passed) (passed-monotone passed) budget percent p)) in
+pub first-explored : {s p : List ℕ} → Passed s → (kits : List ℕ) → {percent budget least from counted : ℕ} {order cells marks cells′ marks′ best tally : List ℕ} → counted ≡ 0 → Visited (firstScene kits s p order percent budget least) from counted cells marks cells′ marks′ best tally → Explored (priced (take (length p) kits) (tableOf s)) percent budget least p best tally
+first-explored {s} {p} passed kits {percent} {budget} {least} {from} {counted} {order} e v =
+    let list = take (length p) kits in
+    let t = priced list (tableOf s) in
+    let formed = priced-formed list (tableOf s) (passed-formed passed) in
+    let monotone = priced-monotone list (tableOf s) (passed-monotone passed) in
+    let done : ruled (firstScene kits s p order percent budget least) counted ≡ visits.visited t budget percent p = rw e (sym (visited-rule t formed monotone budget percent p)) in
     record { holds = rw done at (v .holds); counts = v .counts ∙ ap (λ (w : visits.Tally). w .visits) done }
 
 -- ---------------------------------------------------------------------------
@@ -403,14 +419,9 @@ module _ {t : Table} {p : List ℕ} {n : ℕ} {ps hs ls ha la ms : List ℕ} (m 
           let top = rw last at (ends-rising t (m .formed) few (m .few) (m .positions) order-same ends-same (y - 1) (omega arith) .1) in
           omega (arith, top, ends-mono t (m .formed) few (m .few) (m .positions) order-same ends-same x y h (omega arith))
 
-      ends-few : (x : ℕ) → getD ends x 0 < 256
-      ends-few x =
-          rw ended (over-less 256 (λ x. length (joined (λ y. pick ps 0 y n) x)) (v + 1) 256 (omega arith) (λ j. omega (arith, joined-few ps 0 n j, m .size)) x)
-
       pub ending : Ending t order ends
       ending =
           record {
-            few = ends-few;
             rising = ends-mono t (m .formed) few (m .few) (m .positions) order-same ends-same;
             within = ends-within;
             before = before-position t (m .formed) few (m .few) (m .positions) order-same ends-same;

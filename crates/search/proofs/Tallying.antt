@@ -113,11 +113,11 @@ module _ {t : Table} {budget least : ℕ} {held : Option (List ℕ)} {best tally
           rw (q-held .scored) (less-too least x (score t q) (q-held .passes))
 
   -- a visit goes back
-  pub back-is : (p : List ℕ) {room bound : ℕ} {r : Bool} → room ≡ budget + 1 - cost p → bound ≡ upperBound t p → r ≡ (eqb room 0 || not (leb (getD tally 0 0) bound)) → goesBack (terms t budget percent) p held ≡ r
+  pub back-is : (p : List ℕ) {room bound : ℕ} {r : Bool} → room ≡ budget + 1 - cost t p → bound ≡ upperBound t p → r ≡ (eqb room 0 || not (leb (getD tally 0 0) bound)) → goesBack (terms t budget percent) p held ≡ r
   unfolding terms goesBack
   back-is p er eb e =
-      rw (e, er, eb, no-room budget (cost p), passing (upperBound t p))
-      (joint (ltb budget (cost p)) _ _ (least-is (upperBound t p)))
+      rw (e, er, eb, no-room budget (cost t p), passing (upperBound t p))
+      (joint (ltb budget (cost t p)) _ _ (least-is (upperBound t p)))
 
   -- a plan with a line left is visited
   pub worth-is : (p : List ℕ) {x : ℕ} {r : Bool} → x ≡ upperBound t p → r ≡ not (leb (getD tally 0 0) x) → worthwhile (terms t budget percent) p held ≡ not r
@@ -157,14 +157,14 @@ counted-holds {t} {budget} {least} {held} {best} {tally} {tally′} holds size e
 
 -- A finished plan
 module _ {t : Table} {budget least : ℕ} {held : Option (List ℕ)} {best tally : List ℕ} (holds : Holds t budget least held best tally) (size : length tally ≡ 3) (p : List ℕ) (room bound : ℕ) (marks : List ℕ) {best′ tally′ : List ℕ} (eb : best′ ≡ cond (ranksOver bound room marks (getD tally 0 0) (getD tally 1 0) best) marks best) (et : tally′ ≡ cond (ranksOver bound room marks (getD tally 0 0) (getD tally 1 0) best) (set (set tally 0 bound) 1 room) tally) where
-  module _ (long : length p ≡ choiceCount (t .variables)) (few : choiceCount (t .variables) ≤ 20) (full : openCount p ≡ 0) (em : marks ≡ padded p) (er : room ≡ budget + 1 - cost p) (ex : bound ≡ upperBound t p) (stays : (eqb room 0 || not (leb (getD tally 0 0) bound)) ≡ false) where
+  module _ (long : length p ≡ choiceCount (t .variables)) (few : choiceCount (t .variables) ≤ 20) (full : openCount p ≡ 0) (em : marks ≡ padded p) (er : room ≡ budget + 1 - cost t p) (ex : bound ≡ upperBound t p) (stays : (eqb room 0 || not (leb (getD tally 0 0) bound)) ≡ false) where
     -- its bound is its score
     bound-score : bound ≡ score t p
     unfolding upperBound
     bound-score = ex ∙ ap (score t) (full-taken p full)
 
     -- it is within the budget
-    within-budget : cost p ≤ budget
+    within-budget : cost t p ≤ budget
     within-budget = omega (arith, er, eqb-false room 0 (neither (eqb room 0) stays .0))
 
     -- its bound is worth a visit
@@ -200,7 +200,7 @@ module _ {t : Table} {budget least : ℕ} {held : Option (List ℕ)} {best tally
     unfolding ranksOver ranksBefore
     ranks-is q e =
         let h = holds .something q e in
-        rw (bound-score, er, em, h .scored, h .room, h .plan, more-room budget (cost p) (cost q) within-budget (h .within), same-room budget (cost p) (cost q) within-budget (h .within), first-padded p q (long ∙ sym (h .size))) refl
+        rw (bound-score, er, em, h .scored, h .room, h .plan, more-room budget (cost t p) (cost t q) within-budget (h .within), same-room budget (cost t p) (cost t q) within-budget (h .within), first-padded p q (long ∙ sym (h .size))) refl
 
     -- what is held then is the better of the two
     pub kept-holds : Holds t budget least (better t held p) best′ tally′

@@ -11,11 +11,9 @@ use lib.ListN.{length, getD, set, length-set}
 use lib.Seq.{getD-set-same, set-set}
 use lib.Dec.{eqb, leb}
 use lib.Pow.{pow-pos}
-use borrow.Author.Tests.{eqb-false}
 use Rattle.diagram.specs.Plans.{openCount, upperBound}
 use Rattle.diagram.specs.Visits as visits
 use Rattle.diagram.specs.Visits.{lowestOpen}
-use Rattle.diagram.proofs.Every.{neither}
 use Rattle.rule.specs.Rule.{Terms, terms, goesBack, worthwhile, rule}
 use Rattle.rule.proofs.Ruling.{rule-back, rule-full, rule-taken, rule-both, rule-visits}
 use Rattle.layers.specs.Layers.{Layers, passNodes, ownNodes, dropSum, leaveNodes, Enterable}
@@ -106,10 +104,6 @@ module _ {g : Scene} {l : Layers} {losses lines cells marks best tally : List �
         }
 
     module _ (stays : r ≡ false) where
-      -- there is room for a kit
-      pub room-some : 1 ≤ room
-      room-some = omega (arith, eqb-false room 0 (neither (eqb room 0) (sym test ∙ stays) .0))
-
       -- a visit with no line open
       pub visit-full : n ≡ 0 → {best′ tally′ : List ℕ} → best′ ≡ cond (ranksOver bound room marks (getD tally₁ 0 0) (getD tally₁ 1 0) best) marks best → tally′ ≡ cond (ranksOver bound room marks (getD tally₁ 0 0) (getD tally₁ 1 0) best) (set (set tally₁ 0 bound) 1 room) tally₁ → Visited g (getD lines n 0) (getD tally 2 0) cells marks cells marks best′ tally′
       unfolding terms
@@ -174,7 +168,7 @@ module _ {g : Scene} {l : Layers} {losses lines cells marks best tally : List �
     first = marked g d 1 (g .held)
 
     module _ {cells₁ marks₁ : List ℕ} (enter : cells₁ ≡ ownNodes l own (to - own) (passNodes l from (own - from) cells)) (take : marks₁ ≡ set marks d 1) where
-      first-given : Visitable first l losses lines cells₁ marks₁ best tally₁ (n - 1) (room - 1) bound
+      first-given : Visitable first l losses lines cells₁ marks₁ best tally₁ (n - 1) (room - getD lines (n - 1 + 64) 0) bound
       first-given =
           record {
             ground = marked-ground (given .ground) d 1 (g .held);
@@ -186,12 +180,12 @@ module _ {g : Scene} {l : Layers} {losses lines cells marks best tally : List �
       first-marks = rw (take, length-set marks d 1) (sizes .1)
 
       -- it may be visited
-      pub first-ready : getD tally 2 0 + 2 ^ suc n ≤ 2 ^ 63 → Ready l losses lines cells₁ marks₁ best tally₁ (n - 1) (room - 1) bound
+      pub first-ready : getD tally 2 0 + 2 ^ suc n ≤ 2 ^ 63 → Ready l losses lines cells₁ marks₁ best tally₁ (n - 1) (room - getD lines (n - 1 + 64) 0) bound
       first-ready fits =
           let long : length cells₁ ≡ 512 = rw enter (branching.entered-long (given .ground) (given .stands) more (sizes .0)) in
           ((long, first-marks, sizes .2, counted-size), ((first, first-given), rw (counted-visits, ← add-one) (room-first n (getD tally 2 0) more fits)))
 
-      module _ {cells₂ marks₂ best₂ tally₂ : List ℕ} (visited : (g : Scene) → Visitable g l losses lines cells₁ marks₁ best tally₁ (n - 1) (room - 1) bound → Visited g to (getD tally₁ 2 0) cells₁ marks₁ cells₂ marks₂ best₂ tally₂) where
+      module _ {cells₂ marks₂ best₂ tally₂ : List ℕ} (visited : (g : Scene) → Visitable g l losses lines cells₁ marks₁ best tally₁ (n - 1) (room - getD lines (n - 1 + 64) 0) bound → Visited g to (getD tally₁ 2 0) cells₁ marks₁ cells₂ marks₂ best₂ tally₂) where
         -- what its visit leaves
         first-left : Visited first to (getD tally₁ 2 0) cells₁ marks₁ cells₂ marks₂ best₂ tally₂
         first-left = visited first first-given

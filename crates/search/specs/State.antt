@@ -46,14 +46,22 @@ choicePosition (choice ∷ vs) (suc i) = suc (choicePosition vs i)
 choicePosition (chance a b ∷ vs) i = suc (choicePosition vs i)
 
 -- ---------------------------------------------------------------------------
+-- The kits of lines
+
+-- A table with other kits in place of its own
+unfoldable pub priced : List ℕ → Table → Table
+priced kits t = record { variables = t .variables; records = t .records; kits = kits }
+
+-- ---------------------------------------------------------------------------
 -- The ranks of open lines, by how many lines are unsettled when the line is the lowest of them
 
 -- What `line_ranks` writes for the first `count` lines of a list
-pub record Ranked (count : ℕ) (numbers places ends lines : List ℕ) : Type 0 where
+pub record Ranked (count : ℕ) (numbers places ends kits lines : List ℕ) : Type 0 where
   pub first : getD lines count 0 ≡ 0
   pub own : (i : ℕ) → i < count → getD lines (count - i + 21) 0 ≡ getD ends (getD places (getD numbers i 0) 0) 0
   pub to : (i : ℕ) → i < count → getD lines (count - i - 1) 0 ≡ getD ends (getD places (getD numbers i 0) 0 + 1) 0
   pub number : (i : ℕ) → i < count → getD lines (count - i + 42) 0 ≡ getD numbers i 0
+  pub priced : (i : ℕ) → i < count → getD lines (count - i + 63) 0 ≡ getD kits (getD numbers i 0) 0
 
 -- The numbers of the lowest n lines of which `lines` has the ranks
 unfoldable pub numbersFrom : (lines : List ℕ) → (n : ℕ) → List ℕ
@@ -69,8 +77,8 @@ pub record Holding (t : Table) (budget least : ℕ) (q best tally : List ℕ) : 
   pub size : length q ≡ choiceCount (t .variables)
   pub plan : best ≡ padded q
   pub scored : getD tally 0 0 ≡ scores.score t q
-  pub room : getD tally 1 0 ≡ budget + 1 - cost q
-  pub within : cost q ≤ budget
+  pub room : getD tally 1 0 ≡ budget + 1 - cost t q
+  pub within : cost t q ≤ budget
   pub passes : least ≤ scores.score t q
 
 pub record Holds (t : Table) (budget least : ℕ) (held : Option (List ℕ)) (best tally : List ℕ) : Type 0 where
@@ -98,6 +106,7 @@ pub record Ground (g : Scene) (l : Layers) (losses lines : List ℕ) : Type 0 wh
   pub few : choiceCount (g .table .variables) ≤ 20
   pub layered : Layered (g .table) (g .start) (g .order) l losses
   pub layer : (n : ℕ) → n < openCount (g .start) → Line (g .table) (g .start) (g .order) (getD lines (n + 1) 0) (getD lines (n + 22) 0) (getD lines n 0) (getD lines (n + 43) 0)
+  pub priced : (n : ℕ) → n < openCount (g .start) → getD lines (n + 64) 0 ≡ getD (g .table .kits) (getD lines (n + 43) 0) 0
 
 -- What is handed to a visit: the plan's marks, its open lines, its room and its bound, and cells that are right before the lowest open line's layer
 pub record Stands (g : Scene) (lines cells marks : List ℕ) (unsettled room bound : ℕ) : Type 0 where
@@ -105,7 +114,7 @@ pub record Stands (g : Scene) (lines cells marks : List ℕ) (unsettled room bou
   pub marked : marks ≡ padded (g .plan)
   pub listed : openLines (g .plan) ≡ numbersFrom lines unsettled
   pub few : unsettled ≤ openCount (g .start)
-  pub affords : room ≡ g .budget + 1 - cost (g .plan)
+  pub affords : room ≡ g .budget + 1 - cost (g .table) (g .plan)
   pub bounded : bound ≡ upperBound (g .table) (g .plan)
   pub right : Right (g .table) (g .start) (openTaken (g .plan)) (g .order) (getD lines unsettled 0) cells
   pub rooted : getD cells 1 0 ≡ gap (g .table) 0 (place (g .table) (root (g .table)))
@@ -149,7 +158,6 @@ pub record Ordered (s p : List ℕ) (n : ℕ) (positions high low highArcs lowAr
 
 -- `ends` has how many nodes of the order stand before each position: those before stand there, those from there to the next at it, and those after later
 pub record Ending (t : Table) (order ends : List ℕ) : Type 0 where
-  pub few : (x : ℕ) → getD ends x 0 < 256
   pub rising : (x y : ℕ) → x ≤ y → y ≤ length (t .variables) → getD ends x 0 ≤ getD ends y 0
   pub within : (x : ℕ) → x ≤ length (t .variables) → getD ends x 0 ≤ length (t .records)
   pub before : (x j : ℕ) → x ≤ length (t .variables) → j < getD ends x 0 → place t (getD order j 0) < x

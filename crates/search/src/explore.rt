@@ -1,8 +1,8 @@
 // The search of an accepted table from a legal plan: everything that does not change is made once, then the plan is visited.
-use crate::lines::cost_of;
 use crate::lines::line_ranks;
 use crate::lines::open_lines;
 use crate::visit::visit;
+use cost::cost_of;
 use diagram::Node;
 use diagram::Plan;
 use layers::lay_arcs;
@@ -18,12 +18,12 @@ use sweep::by_choice;
 ghost use mathlib.Core.Path.{_≡_};
 ghost use mathlib.Core.List.{List};
 ghost use Prim.Native.Nat.{ℕ, _+_, _-_, _≤_};
-ghost use lib.ListN.{length, getD};
+ghost use lib.ListN.{length, getD, take};
 ghost use Rattle.diagram.specs.Table.{tableOf, choiceCount};
-ghost use Rattle.diagram.specs.Plans.{cost, LeastPassing};
+ghost use Rattle.diagram.specs.Plans.{LeastPassing};
 ghost use Rattle.diagram.proofs.Checked.{Passed};
 ghost use Rattle.scoring.specs.Passes.{Decoded, marksByPosition};
-ghost use Rattle.search.specs.State.{rows, Arrays, Ordered, Arranged, Explored};
+ghost use Rattle.search.specs.State.{priced, Arrays, Ordered, Arranged, Explored};
 
 // Every position by its own number, to be picked from.
 const POSITIONS: [u64; 64] = [
@@ -94,11 +94,12 @@ const POSITIONS: [u64; 64] = [
 ];
 
 // What is held and counted after the search of a file that has passed every check, from a plan that the checks 21 and 22 let
-// through; `least` is the least score that passes. The arrays hold the file's records, as `accept` leaves
-// them.
+// through, where the lines take these kits; `least` is the least score that passes. The arrays hold the file's records, as
+// `accept` leaves them.
 pub fn explore(
     file: &[u8],
     plan: &[u8],
+    kits: &[u16; 20],
     budget: u32,
     least: u64,
     positions: &[u8; 256],
@@ -109,10 +110,10 @@ pub fn explore(
 )
     requires passed { ⌜ Passed (now file) ⌝ }
     requires plan { ⌜ (length (now plan) ≡ choiceCount (tableOf (now file) .variables)) × ((i : ℕ) → getD (now plan) i 0 ≤ 2) ⌝ }
-    requires least { ⌜ (budget ≤ 20) × ((percent : ℕ) × LeastPassing (tableOf (now file)) percent least) ⌝ }
+    requires least { ⌜ (budget ≤ 10020) × ((percent : ℕ) × LeastPassing (tableOf (now file)) percent least) ⌝ }
     requires records { ⌜ Decoded (now file) (now positions) (now high) (now low) ⌝ }
     requires sizes { ⌜ (length (now best) ≡ 20) × (length (now tally) ≡ 3) ⌝ }
-    ensures { λ _. ⌜ ((percent : ℕ) → LeastPassing (tableOf (now (file .entry))) percent least → Explored (tableOf (now (file .entry))) percent budget least (now (plan .entry)) (now (best .exit)) (now (tally .exit))) ⌝ }
+    ensures { λ _. ⌜ ((percent : ℕ) → LeastPassing (tableOf (now (file .entry))) percent least → Explored (priced (take (length (now (plan .entry))) (now (kits .entry))) (tableOf (now (file .entry)))) percent budget least (now (plan .entry)) (now (best .exit)) (now (tally .exit))) ⌝ }
 {
     let n = record_count(file);
     let mut high_arcs = [0u64; 256];
@@ -122,6 +123,7 @@ pub fn explore(
     arrange(
         file,
         plan,
+        kits,
         budget,
         least,
         best,
@@ -141,6 +143,7 @@ pub fn explore(
 fn arrange(
     file: &[u8],
     plan: &[u8],
+    kits: &[u16; 20],
     budget: u32,
     least: u64,
     best: &mut [u8; 20],
@@ -156,11 +159,11 @@ fn arrange(
 )
     requires passed { ⌜ Passed (now file) ⌝ }
     requires plan { ⌜ (length (now plan) ≡ choiceCount (tableOf (now file) .variables)) × ((i : ℕ) → getD (now plan) i 0 ≤ 2) ⌝ }
-    requires least { ⌜ (budget ≤ 20) × ((percent : ℕ) × LeastPassing (tableOf (now file)) percent least) ⌝ }
+    requires least { ⌜ (budget ≤ 10020) × ((percent : ℕ) × LeastPassing (tableOf (now file)) percent least) ⌝ }
     requires sizes { ⌜ (length (now best) ≡ 20) × (length (now tally) ≡ 3) ⌝ }
     requires arrays { ⌜ Arrays (now file) n weight (now positions) (now high) (now low) (now «high_arcs») (now «low_arcs») ⌝ }
     requires marks { ⌜ now marks ≡ marksByPosition (tableOf (now file)) (now plan) ⌝ }
-    ensures { λ _. ⌜ ((percent : ℕ) → LeastPassing (tableOf (now (file .entry))) percent least → Explored (tableOf (now (file .entry))) percent budget least (now (plan .entry)) (now (best .exit)) (now (tally .exit))) ⌝ }
+    ensures { λ _. ⌜ ((percent : ℕ) → LeastPassing (tableOf (now (file .entry))) percent least → Explored (priced (take (length (now (plan .entry))) (now (kits .entry))) (tableOf (now (file .entry)))) percent budget least (now (plan .entry)) (now (best .exit)) (now (tally .exit))) ⌝ }
 {
     let v = variable_count(file) as usize;
     let mut order = [0u16; 1024];
@@ -185,6 +188,7 @@ fn arrange(
     evaluate(
         file,
         plan,
+        kits,
         budget,
         least,
         best,
@@ -209,6 +213,7 @@ fn arrange(
 fn evaluate(
     file: &[u8],
     plan: &[u8],
+    kits: &[u16; 20],
     budget: u32,
     least: u64,
     best: &mut [u8; 20],
@@ -229,11 +234,11 @@ fn evaluate(
 )
     requires passed { ⌜ Passed (now file) ⌝ }
     requires plan { ⌜ (length (now plan) ≡ choiceCount (tableOf (now file) .variables)) × ((i : ℕ) → getD (now plan) i 0 ≤ 2) ⌝ }
-    requires least { ⌜ (budget ≤ 20) × ((percent : ℕ) × LeastPassing (tableOf (now file)) percent least) ⌝ }
+    requires least { ⌜ (budget ≤ 10020) × ((percent : ℕ) × LeastPassing (tableOf (now file)) percent least) ⌝ }
     requires sizes { ⌜ (length (now best) ≡ 20) × (length (now tally) ≡ 3) ⌝ }
     requires arrays { ⌜ Arrays (now file) n weight (now positions) (now high) (now low) (now «high_arcs») (now «low_arcs») ⌝ }
     requires ordered { ⌜ Ordered (now file) (now plan) n (now positions) (now high) (now low) (now «high_arcs») (now «low_arcs») (now marks) (now ends) (now order) (record { starts = now starts; sources = now sources; arcs = now arcs }) ⌝ }
-    ensures { λ _. ⌜ ((percent : ℕ) → LeastPassing (tableOf (now (file .entry))) percent least → Explored (tableOf (now (file .entry))) percent budget least (now (plan .entry)) (now (best .exit)) (now (tally .exit))) ⌝ }
+    ensures { λ _. ⌜ ((percent : ℕ) → LeastPassing (tableOf (now (file .entry))) percent least → Explored (priced (take (length (now (plan .entry))) (now (kits .entry))) (tableOf (now (file .entry)))) percent budget least (now (plan .entry)) (now (best .exit)) (now (tally .exit))) ⌝ }
 {
     let mut values = [0u64; 256];
     values_of(
@@ -261,6 +266,7 @@ fn evaluate(
     first_visit(
         file,
         plan,
+        kits,
         budget,
         least,
         best,
@@ -279,6 +285,7 @@ fn evaluate(
 fn first_visit(
     file: &[u8],
     plan: &[u8],
+    kits: &[u16; 20],
     budget: u32,
     least: u64,
     best: &mut [u8; 20],
@@ -293,17 +300,17 @@ fn first_visit(
 )
     requires passed { ⌜ Passed (now file) ⌝ }
     requires plan { ⌜ (length (now plan) ≡ choiceCount (tableOf (now file) .variables)) × ((i : ℕ) → getD (now plan) i 0 ≤ 2) ⌝ }
-    requires least { ⌜ (budget ≤ 20) × ((percent : ℕ) × LeastPassing (tableOf (now file)) percent least) ⌝ }
+    requires least { ⌜ (budget ≤ 10020) × ((percent : ℕ) × LeastPassing (tableOf (now file)) percent least) ⌝ }
     requires sizes { ⌜ (length (now best) ≡ 20) × (length (now tally) ≡ 3) ⌝ }
     requires arranged { ⌜ ((order : List ℕ) × Arranged (tableOf (now file)) (now plan) weight bound (now ends) order (record { starts = now starts; sources = now sources; arcs = now arcs }) (now losses)) ⌝ }
-    ensures { λ _. ⌜ ((percent : ℕ) → LeastPassing (tableOf (now (file .entry))) percent least → Explored (tableOf (now (file .entry))) percent budget least (now (plan .entry)) (now (best .exit)) (now (tally .exit))) ⌝ }
+    ensures { λ _. ⌜ ((percent : ℕ) → LeastPassing (tableOf (now (file .entry))) percent least → Explored (priced (take (length (now (plan .entry))) (now (kits .entry))) (tableOf (now (file .entry)))) percent budget least (now (plan .entry)) (now (best .exit)) (now (tally .exit))) ⌝ }
 {
     let places = by_choice(file, &POSITIONS);
     let start = Plan::of_marks(plan);
     let open = open_lines(start);
     let numbers = open.numbers;
-    let mut lines = [0u8; 64];
-    line_ranks(open.count, &numbers, &places, ends, &mut lines);
+    let mut lines = [0u16; 84];
+    line_ranks(open.count, &numbers, &places, ends, kits, &mut lines);
     let mut cells = [0u64; 512];
     cells[1] = weight;
     let mut marks = start.marks;
@@ -311,28 +318,28 @@ fn first_visit(
     tally[1] = 0;
     tally[2] = 0;
     visit(
+        open.count,
+        &lines,
         starts,
         sources,
         arcs,
-        losses,
-        &lines,
         &mut cells,
+        losses,
         &mut marks,
         best,
         tally,
-        open.count,
-        room_of(budget, cost_of(start)),
+        room_of(budget as u64, cost_of(plan, kits)),
         bound,
     )
 }
 
 // The kits that a plan leaves and one more, and 0 where it costs more than the budget.
-fn room_of(budget: u32, cost: u32) -> u64
-    requires { ⌜ budget ≤ 20 ⌝ }
+fn room_of(budget: u64, cost: u64) -> u64
+    requires { ⌜ budget ≤ 10020 ⌝ }
     ensures { λ r. ⌜ r ≡ budget + 1 - cost ⌝ }
 {
     if budget < cost {
         return 0;
     }
-    (budget + 1 - cost) as u64
+    budget + 1 - cost
 }

@@ -6,6 +6,7 @@ mod visit;
 
 pub use answer::Finding;
 pub use answer::SearchAnswer;
+use cost::kits_of;
 use diagram::Refusal;
 use diagram::least_passing;
 use explore::explore;
@@ -46,6 +47,7 @@ pub fn search(file: &[u8], plan: &[u8], budget: u32, percent: u32, out: &mut [u8
     explore(
         file,
         plan,
+        &kits_of(file),
         budget,
         least_passing(percent, t.scale),
         &positions,

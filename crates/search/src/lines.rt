@@ -1,4 +1,5 @@
-// The lines of a plan: those that are open, what the taken ones cost, and the ranks of the open ones' layers.
+// The lines of a plan: those that are open, with their kits and the ranks of their layers.
+use cost::wide;
 use diagram::Choice;
 use diagram::Plan;
 use diagram::Position;
@@ -33,35 +34,19 @@ pub fn open_lines(plan: Plan) -> Lines
     Lines { numbers, count }
 }
 
-// What a plan costs: a kit for each line taken. The plan has at most 20 lines, as `Plan::of_marks` leaves it.
-pub fn cost_of(plan: Plan) -> u32
-    requires { ⌜ plan .count ≤ 20 ⌝ }
-    ensures { λ r. ⌜ r ≡ plans.cost (rows plan) ⌝ }
-{
-    let n = plan.count;
-    let mut cost = 0;
-    let mut i = 0;
-    while i < n {
-        if plan.marks[i] == Plan::TAKEN {
-            cost += 1;
-        }
-        i += 1;
-    }
-    cost
-}
-
 // The ranks and the numbers of open lines, by how many lines are unsettled when the line is the lowest of them: at that place
-// the rank where its layer begins, 21 places on where its own nodes do, one place before where they end, and 42 places on its
-// number. The first layer begins at rank 0. `ends` has how many nodes stand before each position.
+// the rank where its layer begins, 21 places on where its own nodes do, one place before where they end, 42 places on its number
+// and 63 places on its kits. The first layer begins at rank 0. `ends` has how many nodes stand before each position.
 pub fn line_ranks(
     count: usize,
     numbers: &[u8; 20],
     places: &[u64; 20],
     ends: &[u16; 256],
-    lines: &mut [u8; 64],
+    kits: &[u16; 20],
+    lines: &mut [u16; 84],
 )
-    requires { ⌜ (count ≤ 20) × (length (now lines) ≡ 64) × ((i : ℕ) → i < count → (getD (now numbers) i 0 < 20) × (getD (now places) (getD (now numbers) i 0) 0 < 64)) × ((x : ℕ) → getD (now ends) x 0 < 256) ⌝ }
-    ensures { λ _. ⌜ Ranked count (now (numbers .entry)) (now (places .entry)) (now (ends .entry)) (now (lines .exit)) ⌝ }
+    requires { ⌜ (count ≤ 20) × (length (now lines) ≡ 84) × ((i : ℕ) → i < count → (getD (now numbers) i 0 < 20) × (getD (now places) (getD (now numbers) i 0) 0 < 64)) ⌝ }
+    ensures { λ _. ⌜ Ranked count (now (numbers .entry)) (now (places .entry)) (now (ends .entry)) (now (kits .entry)) (now (lines .exit)) ⌝ }
 {
     lines[count] = 0;
     let mut i = 0;
@@ -70,9 +55,10 @@ pub fn line_ranks(
         let at = position_at(places, line);
         let x = at.number();
         let unsettled = count - i;
-        lines[unsettled + 21] = ends[x] as u8;
-        lines[unsettled - 1] = ends[x + 1] as u8;
-        lines[unsettled + 42] = numbers[i];
+        lines[unsettled + 21] = ends[x];
+        lines[unsettled - 1] = ends[x + 1];
+        lines[unsettled + 42] = numbers[i] as u16;
+        lines[unsettled + 63] = kits[line.number()];
         i += 1;
     }
 }
@@ -87,11 +73,19 @@ fn position_at(places: &[u64; 20], choice: Choice) -> Position
 }
 
 // Marks the lowest of the unsettled lines.
-pub fn mark_line(lines: &[u8; 64], marks: &mut [u8; 20], unsettled: usize, mark: u8)
+pub fn mark_line(lines: &[u16; 84], marks: &mut [u8; 20], unsettled: usize, mark: u8)
     requires { ⌜ (unsettled ≤ 20) × (getD (now lines) (unsettled + 42) 0 < 20) × (length (now marks) ≡ 20) ⌝ }
     ensures { λ _. ⌜ now (marks .exit) ≡ set (now (marks .entry)) (getD (now (lines .entry)) (unsettled + 42) 0) mark ⌝ }
 {
-    let line = Choice::new(lines[unsettled + 42]);
+    let line = Choice::new(lines[unsettled + 42] as u8);
     let i = line.number();
     marks[i] = mark;
+}
+
+// The kits of the line that has just been taken: of the lowest of the lines that were unsettled before.
+pub fn line_kits(lines: &[u16; 84], unsettled: usize) -> u64
+    requires { ⌜ unsettled < 20 ⌝ }
+    ensures { λ r. ⌜ r ≡ getD (now (lines .entry)) (unsettled + 64) 0 ⌝ }
+{
+    wide(lines[unsettled + 64])
 }

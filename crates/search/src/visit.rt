@@ -1,4 +1,5 @@
 // The visits of document 01's rule, by recursion over the open lines.
+use crate::lines::line_kits;
 use crate::lines::mark_line;
 use diagram::Plan;
 use incumbent::count;
@@ -8,24 +9,25 @@ use incumbent::keep;
 use layers::enter_layer;
 use layers::leave_layer;
 ghost use mathlib.Core.Path.{_≡_};
-ghost use Prim.Native.Nat.{suc, _+_, _≤_, _^_};
+ghost use Prim.Native.Nat.{suc, _+_, _-_, _≤_, _<_, _^_};
 ghost use lib.ListN.{length, getD};
 ghost use Rattle.search.specs.State.{Scene, Visitable, Visited};
 
 // Visits a plan with so many unsettled lines, such room and such a bound, whose marks are handed in, and leaves what is held and
-// counted then; the marks are as before. The first five arrays hold a table laid out for the search, and the cells the path
-// weights of the nodes before the lowest open line's layer; `first_visit` hands in the first plan.
+// counted then; the marks are as before. Lines, starts, sources, arcs and losses hold a table laid out for the search, and the
+// cells the path weights of the nodes before the lowest open line's layer; `first_visit` hands in the first plan. What a layer
+// is entered with stands first, where calls have it in registers.
 pub fn visit(
+    unsettled: usize,
+    lines: &[u16; 84],
     starts: &[u16; 256],
     sources: &[u16; 1024],
     arcs: &[u64; 1024],
-    losses: &[u64; 256],
-    lines: &[u8; 64],
     cells: &mut [u64; 512],
+    losses: &[u64; 256],
     marks: &mut [u8; 20],
     best: &mut [u8; 20],
     tally: &mut [u64; 3],
-    unsettled: usize,
     room: u64,
     bound: u64,
 )
@@ -46,17 +48,17 @@ pub fn visit(
     let next = unsettled - 1;
     mark_line(lines, marks, unsettled, Plan::TAKEN);
     visit_taken(
+        next,
+        lines,
         starts,
         sources,
         arcs,
-        losses,
-        lines,
         cells,
+        losses,
         marks,
         best,
         tally,
-        next,
-        room - 1,
+        room,
         bound,
     );
     let left = bound - drop;
@@ -67,59 +69,60 @@ pub fn visit(
     leave_layer(lines, cells, unsettled);
     mark_line(lines, marks, unsettled, Plan::LEFT);
     visit(
+        next,
+        lines,
         starts,
         sources,
         arcs,
-        losses,
-        lines,
         cells,
+        losses,
         marks,
         best,
         tally,
-        next,
         room,
         left,
     );
     mark_line(lines, marks, unsettled, Plan::OPEN);
 }
 
-// Visits a plan with one line more taken. One that costs more than the budget is only counted: it goes back, and there is no need
-// of a call.
+// Visits a plan with one line more taken, where there was such room before it was. One that costs more than the budget is only
+// counted: it goes back, and there is no need of a call.
 fn visit_taken(
+    unsettled: usize,
+    lines: &[u16; 84],
     starts: &[u16; 256],
     sources: &[u16; 1024],
     arcs: &[u64; 1024],
-    losses: &[u64; 256],
-    lines: &[u8; 64],
     cells: &mut [u64; 512],
+    losses: &[u64; 256],
     marks: &mut [u8; 20],
     best: &mut [u8; 20],
     tally: &mut [u64; 3],
-    unsettled: usize,
     room: u64,
     bound: u64,
 )
     requires sizes { ⌜ (length (now cells) ≡ 512) × (length (now marks) ≡ 20) × (length (now best) ≡ 20) × (length (now tally) ≡ 3) ⌝ }
-    requires { ⌜ ((g : Scene) × Visitable g (record { starts = now starts; sources = now sources; arcs = now arcs }) (now losses) (now lines) (now cells) (now marks) (now best) (now tally) unsettled room bound) ⌝ }
-    requires visits { ⌜ getD (now tally) 2 0 + 2 ^ suc unsettled ≤ 2 ^ 63 ⌝ }
-    ensures { λ _. ⌜ ((g : Scene) → Visitable g (record { starts = now (starts .entry); sources = now (sources .entry); arcs = now (arcs .entry) }) (now (losses .entry)) (now (lines .entry)) (now (cells .entry)) (now (marks .entry)) (now (best .entry)) (now (tally .entry)) unsettled room bound → Visited g (getD (now (lines .entry)) unsettled 0) (getD (now (tally .entry)) 2 0) (now (cells .entry)) (now (marks .entry)) (now (cells .exit)) (now (marks .exit)) (now (best .exit)) (now (tally .exit))) ⌝ }
+    requires { ⌜ ((g : Scene) × Visitable g (record { starts = now starts; sources = now sources; arcs = now arcs }) (now losses) (now lines) (now cells) (now marks) (now best) (now tally) unsettled (room - getD (now lines) (unsettled + 64) 0) bound) ⌝ }
+    requires visits { ⌜ (getD (now tally) 2 0 + 2 ^ suc unsettled ≤ 2 ^ 63) × (unsettled < 20) ⌝ }
+    ensures { λ _. ⌜ ((g : Scene) → Visitable g (record { starts = now (starts .entry); sources = now (sources .entry); arcs = now (arcs .entry) }) (now (losses .entry)) (now (lines .entry)) (now (cells .entry)) (now (marks .entry)) (now (best .entry)) (now (tally .entry)) unsettled (room - getD (now (lines .entry)) (unsettled + 64) 0) bound → Visited g (getD (now (lines .entry)) unsettled 0) (getD (now (tally .entry)) 2 0) (now (cells .entry)) (now (marks .entry)) (now (cells .exit)) (now (marks .exit)) (now (best .exit)) (now (tally .exit))) ⌝ }
 {
-    if room == 0 {
+    let kits = line_kits(lines, unsettled);
+    if room <= kits {
         count(tally);
         return;
     }
     visit(
+        unsettled,
+        lines,
         starts,
         sources,
         arcs,
-        losses,
-        lines,
         cells,
+        losses,
         marks,
         best,
         tally,
-        unsettled,
-        room,
+        room - kits,
         bound,
     );
 }

@@ -38,13 +38,13 @@ module _ (s : List ℕ) where
   unfolding percentFault placeZero
   percent-above percent h = rw (lt-ltb 100 percent h) refl
 
-  budget-within : (budget : ℕ) → budget ≤ 20 → budgetFault budget s ≡ none
+  budget-within : (budget : ℕ) → budget ≤ 10020 → budgetFault budget s ≡ none
   unfolding budgetFault placeZero
-  budget-within budget h = rw (le-ltb 20 budget h) refl
+  budget-within budget h = rw (le-ltb 10020 budget h) refl
 
-  budget-above : (budget : ℕ) → 20 < budget → budgetFault budget s ≡ some 0
+  budget-above : (budget : ℕ) → 10020 < budget → budgetFault budget s ≡ some 0
   unfolding budgetFault placeZero
-  budget-above budget h = rw (lt-ltb 20 budget h) refl
+  budget-above budget h = rw (lt-ltb 10020 budget h) refl
 
   buffer-fits : (size : ℕ) → size ≡ choiceCount (tableOf s .variables) → bufferFault size s ≡ none
   unfolding bufferFault placeZero
@@ -63,7 +63,7 @@ pub record Proper (s p : List ℕ) (budget percent size : ℕ) : Type 0 where
   pub long : length p ≡ choiceCount (tableOf s .variables)
   pub legal : Legal p
   pub percents : percent ≤ 100
-  pub budgets : budget ≤ 20
+  pub budgets : budget ≤ 10020
   pub sized : size ≡ choiceCount (tableOf s .variables)
 
 module _ (s p : List ℕ) (budget percent size : ℕ) where
@@ -91,11 +91,11 @@ module _ (s p : List ℕ) (budget percent size : ℕ) where
         request-23 h = sym (from-23 ∙ checked-stops _ _ _ s 0 (percent-above s percent h))
 
         module _ (percents : percent ≤ 100) where
-          pub request-24 : 20 < budget → refused 24 0 ≡ requestOutcome s p budget percent size
+          pub request-24 : 10020 < budget → refused 24 0 ≡ requestOutcome s p budget percent size
           request-24 h =
               sym (from-23 ∙ checked-passes _ _ _ s (percent-within s percent percents) ∙ checked-stops _ _ _ s 0 (budget-above s budget h))
 
-          module _ (budgets : budget ≤ 20) where
+          module _ (budgets : budget ≤ 10020) where
             -- the last check
             from-25 : requestOutcome s p budget percent size ≡ checked (record { number = 25; fault = bufferFault size } ∷ []) (λ file. answered (reading file)) s
             from-25 =
@@ -135,9 +135,9 @@ module _ (s p : List ℕ) (budget percent size : ℕ) where
     percent-small =
         by-cases (decLt 100 percent) (λ h. absurd (turned 23 0 (request-23 is-read is-long has-marks h))) (λ f. omega arith)
 
-    budget-small : budget ≤ 20
+    budget-small : budget ≤ 10020
     budget-small =
-        by-cases (decLt 20 budget) (λ h. absurd (turned 24 0 (request-24 is-read is-long has-marks percent-small h))) (λ f. omega arith)
+        by-cases (decLt 10020 budget) (λ h. absurd (turned 24 0 (request-24 is-read is-long has-marks percent-small h))) (λ f. omega arith)
 
     is-sized : size ≡ choiceCount (tableOf s .variables)
     is-sized =

@@ -43,7 +43,7 @@ pub fn accept(
     if 100 < percent {
         return refuse(23, 0);
     }
-    if 20 < budget {
+    if 10020 < budget {
         return refuse(24, 0);
     }
     if size != t.choices {

@@ -16,7 +16,7 @@ use Rattle.diagram.specs.Ranking.{bestPlan}
 use Rattle.diagram.specs.Visits.{visitCount}
 use Rattle.diagram.specs.Checks.{jobFault, jobChecks, scoreChecks, sweepChecks, filterChecks, searchChecks}
 use Rattle.diagram.specs.Services.{Outcome, refused, answered, checked, written, reading, Searching, readOutcome, scoreOutcome, sweepOutcome, sweepBuffer, filtering, filterOutcome, filterBuffer, searching, searchOutcome, searchBuffer}
-use Rattle.diagram.specs.Printout.{refusalText, planText, searchText, jobOutcome, programOutcome, printout}
+use Rattle.diagram.specs.Printout.{refusalText, planText, searchText, jobOutcome, jobKits, programOutcome, printout}
 use Rattle.diagram.specs.declared.refusal.Refusal.{Refusal}
 use Rattle.diagram.proofs.Checked.{checked-passes, checked-stops, checked-end, read-reading, read-passed}
 use Rattle.reading.specs.declared.answer.ReadAnswer.the-variants as read-answer
@@ -93,7 +93,7 @@ module _ (q : Request) where
 
 -- the program's rows: 10 of its job word, and then those of the search
 program-decided : (input : List ℕ) → Decided (jobOf input) programReasons (programOutcome (take 1265 input))
-unfolding programReasons jobOf programOutcome jobChecks jobOutcome numberOf
+unfolding programReasons jobOf programOutcome jobChecks jobKits jobOutcome numberOf
 program-decided input = go (jobFault (take 1265 input)) refl
   where
     go : (o : Option ℕ) → jobFault (take 1265 input) ≡ o → Decided (jobOf input) programReasons (programOutcome (take 1265 input))

@@ -13,7 +13,7 @@ use lib.Dec.{eqb, ltb, leb}
 use borrow.Author.Tests.{leb-true, le-leb, eq-eqb}
 use Rattle.diagram.specs.Table.{tableOf}
 use Rattle.diagram.specs.Score.{score, scoreFrom, total}
-use Rattle.diagram.specs.Plans.{cost, takenCount, passing, passes}
+use Rattle.diagram.specs.Plans.{cost, passing, passes}
 use Rattle.diagram.specs.Ranking.{takesFirst, ranksBefore, isCandidate, bestPlan}
 use Rattle.diagram.specs.Checks.{fullPlanFault, scoreChecks}
 use Rattle.diagram.specs.Services.{refused, answered, written, Searching, scoreOutcome, searching, searchBuffer}
@@ -72,7 +72,6 @@ first-line (keeps {m} k) (keeps l) h = further (suc m) (first-line k l (rw (eq-e
 
 -- one of two completions that ranks before the other does so in the demand's words
 ranks-before : (s : List ℕ) {p c d : List ℕ} → Completes p c → Completes p d → ranksBefore (tableOf s) c d ≡ true → RanksBefore s c d
-unfolding cost
 ranks-before s {p} {c} {d} k l h = go (ranks h)
   where
     go : Before (tableOf s) c d → RanksBefore s c d
@@ -86,15 +85,15 @@ ranks-before s {p} {c} {d} k l h = go (ranks h)
 module _ (s p : List ℕ) (budget percent : ℕ) where
   -- a candidate finishes the plan, and its test holds
   pub candidate-test : {c : List ℕ} → Candidate s p budget percent c → Completes p c × (isCandidate (tableOf s) budget percent c ≡ true)
-  unfolding isCandidate cost passing passes
+  unfolding isCandidate passing passes
   candidate-test {c} k =
       (completion-completes p c (k .finishes), and-true-both _ _ (le-leb _ _ (k .within)) (le-leb _ _ (k .passes)))
 
   -- a plan that finishes the one given and whose test holds is a candidate
   test-candidate : {c : List ℕ} → Completes p c → isCandidate (tableOf s) budget percent c ≡ true → Candidate s p budget percent c
-  unfolding isCandidate cost passing passes
+  unfolding isCandidate passing passes
   test-candidate {c} k e =
-      let r = both (leb (takenCount c) budget) e in
+      let r = both (leb (cost (tableOf s) c) budget) e in
       record { finishes = completes-completion k; within = leb-true _ _ (r .0); passes = leb-true _ _ (r .1) }
 
   -- what is demanded where there is no best plan

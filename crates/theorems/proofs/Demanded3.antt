@@ -46,7 +46,7 @@ marks-fit p s h = no-place (λ i. ltb 2 (getD p i 0)) 0 (length p) (λ k l. rw z
 
 module _ (s p : List ℕ) (read : Accepted s) (legal : LegalMarking s p) (size : ℕ) (fits : size ≡ length p) where
   -- no check turns such a request away
-  pub legal-request : (budget percent : ℕ) → budget ≤ 20 → percent ≤ 100 → requestOutcome s p budget percent size ≡ answered (reading s)
+  pub legal-request : (budget percent : ℕ) → budget ≤ 10020 → percent ≤ 100 → requestOutcome s p budget percent size ≡ answered (reading s)
   legal-request budget percent b h =
       sym (request-accepted s p budget percent size (accepted-read s read) (legal .size) (marks-fit p [] (legal .marks)) h b (fits ∙ legal .size))
 

@@ -7,3 +7,4 @@ pub mod Deciding
 pub mod Demanded3
 pub mod Demanded2
 pub mod Demanded1
+pub mod Charged

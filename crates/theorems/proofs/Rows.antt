@@ -22,7 +22,7 @@ use Rattle.diagram.proofs.Places.{none-at}
 use Rattle.diagram.proofs.Checked.{Passed}
 use Rattle.implication.proofs.Shape.{none-passes, shaped-record-word}
 use Rattle.reading.proofs.Accepted.{passed-choices, passed-scale}
-use Rattle.theorems.specs.Reasons.{Request, Reason, jobWord, tableLength, headingWord, wordCount, variableWord, choiceLimit, scaleLimit, recordWord, notMonotone, planLength, planMark, fullPlanMark, percentLimit, budgetLimit, bufferLength, JobWord, HeadingWord, ChoiceWord, ChanceWord, Child, RecordWord, MonotoneAt, Wrong, WholeTable}
+use Rattle.theorems.specs.Reasons.{Request, Reason, jobWord, tableLength, headingWord, wordCount, variableWord, choiceLimit, scaleLimit, recordWord, notMonotone, planLength, planMark, fullPlanMark, percentLimit, budgetLimit, bufferLength, HeadingWord, ChoiceWord, ChanceWord, Child, RecordWord, MonotoneAt, Wrong, WholeTable}
 use Rattle.theorems.proofs.Saying.{Says, says-less, says-most, says-same, in-words, says-not, says-both, says-either, says-then}
 
 -- ---------------------------------------------------------------------------
@@ -116,12 +116,6 @@ below n f P says i = (
 -- ---------------------------------------------------------------------------
 -- Right words
 
-job-says : (w : ℕ) → Says (eqb (kind w) 5 && eqb (fieldQ w) 0) (JobWord w)
-job-says w =
-    in-words _ (says-both _ _ (says-same (kind w) 5) (says-same (fieldQ w) 0))
-    (λ h. record { kind-is = h .0; zero = h .1 })
-    (λ h. (h .kind-is, h .zero))
-
 heading-says : (w : ℕ) → Says (isHeading w) (HeadingWord w)
 unfolding isHeading
 heading-says w =
@@ -140,15 +134,15 @@ variable-says p w =
     in-words (isVariableWord p w)
     (says-both _ _ (says-same (fieldP w) p)
     (says-either _ _
-    (says-both _ _ (says-both _ _ (says-same (kind w) 2) (says-same (fieldQ w) 0)) (says-same (fieldR w) 0))
+    (says-both _ _ (says-both _ _ (says-same (kind w) 2) (says-same (fieldQ w) 0)) (says-most (fieldR w) 500))
     (says-both _ _
     (says-both _ _ (says-same (kind w) 3) (says-both _ _ (says-most 1 (fieldR w)) (says-most (fieldR w) 1000)))
     (says-most (fieldQ w) (fieldR w)))))
     (λ h.
-    ⊎-elim (λ c. inl (record { kind-is = c .0 .0; place = h .0; zeros = (c .0 .1, c .1) }))
+    ⊎-elim (λ c. inl (record { kind-is = c .0 .0; place = h .0; zero = c .0 .1; limit = c .1 }))
     (λ c. inr (record { kind-is = c .0 .0; place = h .0; share = c .1; limits = c .0 .1 }))
     (h .1))
-    (⊎-elim (λ c. (c .place, inl ((c .kind-is, c .zeros .0), c .zeros .1))) (λ c. (c .place, inr ((c .kind-is, c .limits), c .share))))
+    (⊎-elim (λ c. (c .place, inl ((c .kind-is, c .zero), c .limit))) (λ c. (c .place, inr ((c .kind-is, c .limits), c .share))))
 
 -- a node's position is larger: of an end it always is
 later-says : (v : ℕ) (rs : List Record) (p n : ℕ) → p < v → (p < positionOf v rs n) ↔ ((j : ℕ) → n ≡ j + 2 → p < recordAt rs j .position)
@@ -227,7 +221,7 @@ monotone-says t k =
 module _ (q : Request) where
   pub row-10 : (input : List ℕ) → wordAt input 0 ≡ q .job → Renders q jobWord (checks.jobFault input)
   unfolding Wrong checks.jobFault
-  row-10 input e = rw e (at-zero q jobWord _ (says-not _ (job-says (q .job))) (λ i. (λ h. h, λ h. h)))
+  row-10 input e = rw e (at-zero q jobWord _ (says-not _ (says-same (kind (q .job)) 5)) (λ i. (λ h. h, λ h. h)))
 
   pub row-11 : Renders q tableLength (checks.lengthFault (q .file))
   unfolding Wrong checks.lengthFault
@@ -321,7 +315,7 @@ module _ (q : Request) where
 
   pub row-24 : Renders q budgetLimit (checks.budgetFault (q .budget) (q .file))
   unfolding Wrong checks.budgetFault
-  row-24 = at-zero q budgetLimit _ (says-less 20 (q .budget)) (λ i. (λ h. h, λ h. h))
+  row-24 = at-zero q budgetLimit _ (says-less 10020 (q .budget)) (λ i. (λ h. h, λ h. h))
 
   pub row-25 : Renders q bufferLength (checks.bufferFault (q .size) (q .file))
   unfolding Wrong checks.bufferFault

@@ -1,10 +1,10 @@
 -- Demand 1 of the briefing, in its words and with its quantifiers written out. It speaks of what the five services return and write, of what the program
 -- prints, and of the rows of document 01's table "Turned away"; nothing in it is about how a file is gone through.
-use Prim.Native.Nat.{ℕ}
+use Prim.Native.Nat.{ℕ, _+_, _*_}
 use mathlib.Core.Path.{_≡_}
 use mathlib.Core.List.{List}
 use lib.ListN.{length, take, drop, replicate}
-use Rattle.diagram.specs.Words.{wordAt, fieldP, fieldR}
+use Rattle.diagram.specs.Words.{wordAt, fieldP, fieldQ, fieldR}
 use Rattle.diagram.specs.Table.{tableOf, variableCount, recordCount, choiceCount, scale}
 use Rattle.diagram.specs.Services.{Searching, readOutcome, scoreOutcome, sweepOutcome, sweepBuffer, filterOutcome, filterBuffer, searchOutcome, searchBuffer}
 use Rattle.diagram.specs.Printout.{refusalText, planText, printout}
@@ -78,14 +78,14 @@ Services q =
     Judged q searchReasons search-answer.Refused (λ a. (f : Finding) × (a ≡ search-answer.Found f)) answer
     × LeavesBuffer search-answer.Refused answer held written)
 
--- The request that the program makes of the bytes that it can read: a job word with kits and percent, and the table after it, searched "from the fully
--- open plan"; "at most 1,265 bytes are read"
+-- The request that the program makes of the bytes that it can read: a job word with percent and kits, "P plus 64 times Q", and the table after it,
+-- searched "from the fully open plan"; "at most 1,265 bytes are read"
 unfoldable pub jobOf : (input : List ℕ) → Request
 jobOf input =
     let job = wordAt (take 1265 input) 0 in
     let file = drop 4 (take 1265 input) in
     let choices = choiceCount (tableOf file .variables) in
-    record { job = job; file = file; plan = replicate choices 0; percent = fieldR job; budget = fieldP job; size = choices }
+    record { job = job; file = file; plan = replicate choices 0; percent = fieldR job; budget = fieldP job + 64 * fieldQ job; size = choices }
 
 -- Demand 1, of any bytes and whatever comes with them: "Every public service makes the check itself, on the file and on what comes with it". Of the text
 -- is assumed what `print` promises.

@@ -8,7 +8,7 @@ use mathlib.Core.List.{List, map}
 use lib.ListN.{length, getD}
 use Rattle.diagram.specs.Table.{tableOf, root}
 use Rattle.diagram.specs.Score.{truth, settlings, weight, sum, score}
-use Rattle.diagram.specs.Plans.{takenCount}
+use Rattle.diagram.specs.Plans.{cost}
 use Rattle.diagram.specs.Services.{scoreOutcome, searchOutcome, searchBuffer}
 use Rattle.scoring.specs.declared.answer.ScoreAnswer.{ScoreAnswer}
 use Rattle.scoring.specs.declared.answer.ScoreAnswer.the-variants.{Score}
@@ -37,13 +37,14 @@ pub record TakesFirst (way other : List ℕ) : Type 0 where
   pub takes : getD way line 0 ≡ 1
   pub leaves : getD other line 0 ≡ 2
 
--- "Ranking: higher score; then fewer lines taken; then, at the lowest choice number where two differ, the one that takes it."
+-- "Ranking: higher score; then fewer lines taken; then, at the lowest choice number where two differ, the one that takes it", where the sum of kits is read
+-- for the number of lines
 abbrev pub RanksBefore : (file way other : List ℕ) → Type 0
 RanksBefore file way other =
     (score (tableOf file) other < score (tableOf file) way)
     ⊎ ((score (tableOf file) way ≡ score (tableOf file) other)
-    × ((takenCount way < takenCount other)
-    ⊎ ((takenCount way ≡ takenCount other) × TakesFirst way other)))
+    × ((cost (tableOf file) way < cost (tableOf file) other)
+    ⊎ ((cost (tableOf file) way ≡ cost (tableOf file) other) × TakesFirst way other)))
 
 -- "the first, in document 01's ranking, of all plans that finish the one given, stay within the kits and pass the percentage"
 pub record FirstCandidate (file plan : List ℕ) (budget percent : ℕ) (way : List ℕ) : Type 0 where
@@ -78,7 +79,7 @@ Demand2 =
     answer ≡ Score (weightedCount file plan))
     × ((plan : List ℕ) (budget percent : ℕ) (held written : List ℕ) (answer : SearchAnswer) →
     LegalMarking file plan →
-    budget ≤ 20 →
+    budget ≤ 10020 →
     percent ≤ 100 →
     length held ≡ length plan →
     searchOf answer written ≡ searchOutcome file plan budget percent (length held) →

@@ -1,5 +1,5 @@
--- What document 01 says of plans, completions and candidates, and document 02, paper 1, of passing, in words that the demands share, with every quantifier
--- written out: no list of completions is gone through.
+-- What document 01 says of plans, completions and candidates, and document 02, papers 1 and 2, of passing and kits, in words that the demands share, with
+-- every quantifier written out: no list of completions is gone through.
 use Prim.Native.Nat.{ℕ, _*_, _≤_, _<_}
 use mathlib.Core.Path.{_≡_}
 use mathlib.Core.Logic.{_⊎_}
@@ -7,7 +7,7 @@ use mathlib.Core.List.{List}
 use lib.ListN.{length, getD}
 use Rattle.diagram.specs.Table.{tableOf, scale, choiceCount}
 use Rattle.diagram.specs.Score.{score}
-use Rattle.diagram.specs.Plans.{takenCount}
+use Rattle.diagram.specs.Plans.{cost}
 
 -- "a marking is legal when it has one byte a choice and none above 2": 0 open, 1 taken, 2 left
 pub record LegalMarking (file plan : List ℕ) : Type 0 where
@@ -42,11 +42,11 @@ abbrev pub NoneLeaves : (file plan : List ℕ) → (percent i : ℕ) → Type 0
 NoneLeaves file plan percent i =
     (way : List ℕ) → Completion plan way → Passing file percent way → getD way i 0 ≡ 2 → ⊥
 
--- "plans that finish the one given, stay within the kits and pass the percentage". A plan takes as many kits as it takes lines, whether a line was
--- taken before, is forced or is chosen: no line is counted twice.
+-- "plans that finish the one given, stay within the kits and pass the percentage". A plan takes the sum of the kits of its taken lines, whether a line
+-- was taken before, is forced or is chosen: no line is counted twice.
 pub record Candidate (file plan : List ℕ) (budget percent : ℕ) (way : List ℕ) : Type 0 where
   pub finishes : Completion plan way
-  pub within : takenCount way ≤ budget
+  pub within : cost (tableOf file) way ≤ budget
   pub passes : Passing file percent way
 
 -- There is no candidate

@@ -1,5 +1,5 @@
--- Document 01, "Turned away", row by row: what is wrong with a request, and at which place. A row does not search: it says of each place whether the
--- request is wrong there.
+-- Document 01, "Turned away", row by row, as papers 1 and 2 of document 02 have it: what is wrong with a request, and at which place. A row does not
+-- search: it says of each place whether the request is wrong there.
 use Prim.Native.Nat.{ℕ, _+_, _*_, _%_, _^_, _≤_, _<_}
 use mathlib.Core.Path.{_≡_}
 use mathlib.Core.Bool.{Bool, true}
@@ -66,10 +66,9 @@ numberOf noCandidate = 32
 -- ---------------------------------------------------------------------------
 -- Right words
 
--- "5 job | kits | 0 | percent"
-pub record JobWord (w : ℕ) : Type 0 where
-  pub kind-is : kind w ≡ 5
-  pub zero : fieldQ w ≡ 0
+-- "5 job", of which refusal 10 "no longer looks at Q"
+abbrev pub JobWord : ℕ → Type 0
+JobWord w = kind w ≡ 5
 
 -- "1 heading | V, variables, 1 to 60 | N, records, 1 to 254 | 0"
 pub record HeadingWord (w : ℕ) : Type 0 where
@@ -78,11 +77,12 @@ pub record HeadingWord (w : ℕ) : Type 0 where
   pub records : (1 ≤ fieldQ w) × (fieldQ w ≤ 254)
   pub rest : fieldR w ≡ 0
 
--- "2 choice | its position | 0 | 0"
+-- "2 choice | its position | 0 |" and R, which "now holds its kits less one, 0 to 500"
 pub record ChoiceWord (position w : ℕ) : Type 0 where
   pub kind-is : kind w ≡ 2
   pub place : fieldP w ≡ position
-  pub zeros : (fieldQ w ≡ 0) × (fieldR w ≡ 0)
+  pub zero : fieldQ w ≡ 0
+  pub limit : fieldR w ≤ 500
 
 -- "3 chance | its position | a, 0 to b | b, 1 to 1,000"
 pub record ChanceWord (position w : ℕ) : Type 0 where
@@ -125,7 +125,7 @@ AtRecord file i k = (k < recordCount file) × (i ≡ 1 + variableCount file + k)
 
 -- Whether a request is wrong at a place, in the words of each row. "Places in a file count words from the heading, which is 0."
 unfoldable pub Wrong : Request → Reason → (place : ℕ) → Type 0
--- 10: "job word missing, kind not 5, or Q not 0"; a missing word is 0, which is of no kind
+-- 10: "job word missing, kind not 5"; a missing word is 0, which is of no kind
 Wrong q jobWord i = (i ≡ 0) × (JobWord (q .job) → ⊥)
 -- 11: "table length under 4, over 1,260 or no multiple of 4"
 Wrong q tableLength i = (i ≡ 0) × ((length (q .file) < 4) ⊎ ((1260 < length (q .file)) ⊎ (length (q .file) % 4 ≡ 0 → ⊥)))
@@ -153,8 +153,8 @@ Wrong q planMark i = (i < length (q .plan)) × (2 < getD (q .plan) i 0)
 Wrong q fullPlanMark i = (i < length (q .plan)) × ((2 < getD (q .plan) i 0) ⊎ (getD (q .plan) i 0 ≡ 0))
 -- 23: "percent above 100"
 Wrong q percentLimit i = (i ≡ 0) × (100 < q .percent)
--- 24: "kits above 20"
-Wrong q budgetLimit i = (i ≡ 0) × (20 < q .budget)
+-- 24: "kits above 10,020"
+Wrong q budgetLimit i = (i ≡ 0) × (10020 < q .budget)
 -- 25: "the written buffer's length is not the number of choices"
 Wrong q bufferLength i = (i ≡ 0) × (q .size ≡ choiceCount (tableOf (q .file) .variables) → ⊥)
 -- 31: "filter: no completion passes"

@@ -12,7 +12,9 @@ use Rattle.reading.proofs.Accepted.{passed-scale, passed-choices}
 use Rattle.scoring.proofs.Requests.{decoded-read}
 use Rattle.sweep.specs.Request.{requestOutcome}
 use Rattle.sweep.proofs.Requesting.{Proper, refused-request, accepted-request, accepted-proper, accepted-scale}
+use Rattle.cost.proofs.Kits.{kits-length, kits-first}
 use Rattle.search.specs.State.{Explored}
+use Rattle.search.proofs.Priced.{priced-own}
 use Rattle.search.proofs.Answering.{search-turned, search-32, held-long, search-found}
 use Rattle.search.proofs.search.Statement.{statement}
 use Rattle.search.proofs.search.Tie as tie
@@ -33,15 +35,18 @@ request-scale c = accepted-scale _ _ _ _ _ (c .before .before .before .accept .e
 
 -- the least score that passes
 least : (c : tie.After-least-passing) →
-    let a = c .before .before .before .before .before .before .before .before .before .before .before .args in
+    let a = c .before .before .before .before .before .before .before .before .before .before .before .before .before .args in
     LeastPassing (tableOf (a .file .now)) (a .percent) (c .least-passing .result)
-least c = c .least-passing .ensures _ (request-scale (c .before))
+least c = c .least-passing .ensures _ (request-scale (c .before .before .before))
 
 -- what the visits hold and have counted
 explored : (c : tie.After-explore) →
-    let a = c .before .before .before .before .before .before .before .before .before .before .before .before .before .before .before .before .before .args in
-    Explored (tableOf (a .file .now)) (a .percent) (a .budget) (c .before .before .before .before .before .before .least-passing .result) (a .plan .now) (c .explore .last .1 .1 .1 .1 .1 .1 .1 .0) (c .explore .last .1 .1 .1 .1 .1 .1 .1 .1 .0)
-explored c = c .explore .ensures _ (least (c .before .before .before .before .before .before))
+    let a = c .before .before .before .before .before .before .before .before .before .before .before .before .before .before .before .before .before .before .before .args in
+    Explored (tableOf (a .file .now)) (a .percent) (a .budget) (c .before .before .before .before .before .before .least-passing .result) (a .plan .now) (c .explore .last .1 .1 .1 .1 .1 .1 .1 .1 .0) (c .explore .last .1 .1 .1 .1 .1 .1 .1 .1 .1 .0)
+explored c =
+    let passing = c .before .before .before .before .before .before in
+    let ok = request-proper (passing .before .before .before) in
+    rw (passing .before .before .kits-of .ensures, kits-first _ _ (ok .long), priced-own) at (c .explore .ensures _ (least passing))
 
 accept-requires : tie.Need-accept-requires
 accept-requires c κs = search needs
@@ -56,20 +61,25 @@ returns : tie.Need-returns
 returns c =
     search-turned _ _ _ _ _ _ (refused-request _ _ _ _ _ (c .before .before .before .accept .ensures .0) _ (c .before .r .given .1))
 
+kits-of-requires : tie.Need-kits-of-requires
+kits-of-requires c κs =
+    let ok = request-proper c in
+    omega (arith, kits-length (c .before .before .before .before .before .before .before .before .before .before .args .file .now), passed-choices (ok .passed))
+
 least-passing-requires : tie.Need-least-passing-requires
 least-passing-requires c κs =
-    let ok = request-proper c in
-    let scales = request-scale c in
+    let ok = request-proper (c .before .before) in
+    let scales = request-scale (c .before .before) in
     (ok .percents, omega (arith, scales, passed-scale (ok .passed)))
 
 explore-requires : tie.Need-explore-requires
 explore-requires c κs =
-    let ok = request-proper (c .before .before .before .before .before .before) in
+    let ok = request-proper (c .before .before .before .before .before .before .before .before) in
     let passing = least (c .before .before .before .before .before) in (
       ok .passed,
       (
         (ok .long, ok .legal),
-        ((ok .budgets, (_, passing)), (decoded-read _ _ _ (ok .read) (c .before .before .before .before .before .before .before .before .before .accept .ensures .1), (refl, refl))),
+        ((ok .budgets, (_, passing)), (decoded-read _ _ _ (ok .read) (c .before .before .before .before .before .before .before .before .before .before .before .accept .ensures .1), (refl, refl))),
       ),
     )
 
@@ -78,27 +88,27 @@ array-read-if1 c = search needs
 
 returns-2 : tie.Need-returns-2
 returns-2 c =
-    let a = c .before .before .before .before .before .before .before .before .before .before .before .before .before .before .before .before .before .before .args in
-    search-32 (a .file .now) (a .plan .now) (a .out .now) (a .budget) (a .percent) (numbers (c .before .before .before .before .before .before .before .before .before .t .given .0 .0)) (request-answered (c .before .before .before .before .before .before .before .before)) (explored (c .before)) (c .if1 .taken) refl refl
+    let a = c .before .before .before .before .before .before .before .before .before .before .before .before .before .before .before .before .before .before .before .before .args in
+    search-32 (a .file .now) (a .plan .now) (a .out .now) (a .budget) (a .percent) (numbers (c .before .before .before .before .before .before .before .before .before .before .before .t .given .0 .0)) (request-answered (c .before .before .before .before .before .before .before .before .before .before)) (explored (c .before)) (c .if1 .taken) refl refl
 
 write-requires : tie.Need-write-requires
 write-requires c κs =
-    let ok = request-proper (c .before .before .before .before .before .before .before .before .before .before) in
-    (held-long _ _ (c .before .before .before .before .before .before .before .before .before .before .before .before .before .before .before .before .before .before .before .before .args .out .now) _ _ _ (request-answered (c .before .before .before .before .before .before .before .before .before .before)) (explored (c .before .before .before)) (c .before .before .if1 .left), omega (arith, ok .sized, passed-choices (ok .passed)))
+    let ok = request-proper (c .before .before .before .before .before .before .before .before .before .before .before .before) in
+    (held-long _ _ (c .before .before .before .before .before .before .before .before .before .before .before .before .before .before .before .before .before .before .before .before .before .before .args .out .now) _ _ _ (request-answered (c .before .before .before .before .before .before .before .before .before .before .before .before)) (explored (c .before .before .before)) (c .before .before .if1 .left), omega (arith, ok .sized, passed-choices (ok .passed)))
 
-array-read-t21 : tie.Need-array-read-t21
-array-read-t21 c = search needs
+array-read-t24 : tie.Need-array-read-t24
+array-read-t24 c = search needs
 
-array-read-t38 : tie.Need-array-read-t38
-array-read-t38 c = search needs
+array-read-t41 : tie.Need-array-read-t41
+array-read-t41 c = search needs
 
 same-length : tie.Need-same-length
 same-length c = search needs
 
 returns-3 : tie.Need-returns-3
 returns-3 c =
-    let a = c .before .before .before .before .before .before .before .before .before .before .before .before .before .before .before .before .before .before .before .before .before .before .before .args in
-    search-found (a .file .now) (a .plan .now) (a .out .now) (a .budget) (a .percent) (numbers (c .before .before .before .before .before .before .before .before .before .before .before .before .before .before .t .given .0 .0)) (request-answered (c .before .before .before .before .before .before .before .before .before .before .before .before .before)) (explored (c .before .before .before .before .before .before)) (c .before .before .before .before .before .if1 .left) (c .before .before .write .ensures) refl refl
+    let a = c .before .before .before .before .before .before .before .before .before .before .before .before .before .before .before .before .before .before .before .before .before .before .before .before .before .args in
+    search-found (a .file .now) (a .plan .now) (a .out .now) (a .budget) (a .percent) (numbers (c .before .before .before .before .before .before .before .before .before .before .before .before .before .before .before .before .t .given .0 .0)) (request-answered (c .before .before .before .before .before .before .before .before .before .before .before .before .before .before .before)) (explored (c .before .before .before .before .before .before)) (c .before .before .before .before .before .if1 .left) (c .before .before .write .ensures) refl refl
 
 pub search-spec : {M : Type 1} → statement M
 search-spec =
@@ -108,12 +118,13 @@ search-spec =
     enum-known-t
     enum-known-r
     returns
+    kits-of-requires
     least-passing-requires
     explore-requires
     array-read-if1
     returns-2
     write-requires
-    array-read-t21
-    array-read-t38
+    array-read-t24
+    array-read-t41
     same-length
     returns-3)

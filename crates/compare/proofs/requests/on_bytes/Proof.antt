@@ -5,10 +5,10 @@ use Rattle.compare.proofs.requests.on_bytes.Statement.{statement}
 use Rattle.compare.proofs.requests.on_bytes.Tie as tie
 
 abbrev Inv-loop : tie.InvT-loop
-Inv-loop seed rounds choices file counts₀ k₀ counts k = Unit {0}
+Inv-loop seed rounds made file counts₀ k₀ counts k = Unit {0}
 
 abbrev μ-loop : tie.MeasureT-loop
-μ-loop seed rounds choices file counts₀ k₀ counts k = rounds - k
+μ-loop seed rounds made file counts₀ k₀ counts k = rounds - k
 
 read-twice-requires : tie.Need-read-twice-requires Inv-loop μ-loop
 read-twice-requires c κs = tt

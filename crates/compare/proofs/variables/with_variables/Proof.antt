@@ -5,10 +5,10 @@ use Rattle.compare.proofs.variables.with_variables.Statement.{statement
 use Rattle.compare.proofs.variables.with_variables.Tie as tie
 
 abbrev Inv-loop : tie.InvT-loop
-Inv-loop seed in-wide v now₀ p₀ now p = Unit {0}
+Inv-loop seed kind v now₀ p₀ now p = Unit {0}
 
 abbrev μ-loop : tie.MeasureT-loop
-μ-loop seed in-wide v now₀ p₀ now p = v - p
+μ-loop seed kind v now₀ p₀ now p = v - p
 
 variables-requires : tie.Need-variables-requires Inv-loop μ-loop
 variables-requires c κs = tt
@@ -16,14 +16,11 @@ variables-requires c κs = tt
 loop-holds : tie.Need-loop-holds Inv-loop μ-loop
 loop-holds c = tt
 
-wide-variable-requires : tie.Need-wide-variable-requires Inv-loop μ-loop
-wide-variable-requires c κs = tt
-
-variable-requires : tie.Need-variable-requires Inv-loop μ-loop
-variable-requires c κs = tt
-
 plus-requires : tie.Need-plus-requires Inv-loop μ-loop
 plus-requires c κs = tt
+
+variable-of-requires : tie.Need-variable-of-requires Inv-loop μ-loop
+variable-of-requires c κs = tt
 
 with-word-requires : tie.Need-with-word-requires Inv-loop μ-loop
 with-word-requires c κs = tt
@@ -48,9 +45,8 @@ with-variables-spec =
     μ-loop
     variables-requires
     loop-holds
-    wide-variable-requires
-    variable-requires
     plus-requires
+    variable-of-requires
     with-word-requires
     add-p
     loop-less

@@ -5,6 +5,9 @@ use Rattle.layers.proofs.Walking.{passed-length}
 use Rattle.layers.proofs.walk.enter_layer.Statement.{statement}
 use Rattle.layers.proofs.walk.enter_layer.Tie as tie
 
+mul-from : tie.Need-mul-from
+mul-from c = search needs
+
 element-copy-out-from : tie.Need-element-copy-out-from
 element-copy-out-from c = search needs
 
@@ -14,6 +17,9 @@ cast-from c = search needs
 add-own : tie.Need-add-own
 add-own c = search needs
 
+mul-own : tie.Need-mul-own
+mul-own c = search needs
+
 element-copy-out-own : tie.Need-element-copy-out-own
 element-copy-out-own c = search needs
 
@@ -22,6 +28,9 @@ cast-own c = search needs
 
 sub-to : tie.Need-sub-to
 sub-to c = search needs
+
+mul-to : tie.Need-mul-to
+mul-to c = search needs
 
 element-copy-out-to : tie.Need-element-copy-out-to
 element-copy-out-to c = search needs
@@ -56,12 +65,15 @@ pub enter-layer-spec : {M : Type 1} → statement M
 enter-layer-spec =
     tie.close
     (tie.spec
+    mul-from
     element-copy-out-from
     cast-from
     add-own
+    mul-own
     element-copy-out-own
     cast-own
     sub-to
+    mul-to
     element-copy-out-to
     cast-to
     pass-requires

@@ -17,29 +17,35 @@ Inv-loop lines cells₀ unsettled to i₀ cells i =
 abbrev μ-loop : tie.MeasureT-loop
 μ-loop lines cells₀ unsettled to i₀ cells i = to - i
 
-sub-wide : tie.Need-sub-wide Inv-loop μ-loop
-sub-wide c = omega arith
+sub-index : tie.Need-sub-index Inv-loop μ-loop
+sub-index c = omega arith
 
-element-copy-out-wide : tie.Need-element-copy-out-wide Inv-loop μ-loop
-element-copy-out-wide c = omega arith
+mul-index : tie.Need-mul-index Inv-loop μ-loop
+mul-index c = omega arith
 
-wide-requires : tie.Need-wide-requires Inv-loop μ-loop
-wide-requires c κs = tt
+element-copy-out-index : tie.Need-element-copy-out-index Inv-loop μ-loop
+element-copy-out-index c = omega arith
 
-add-wide : tie.Need-add-wide Inv-loop μ-loop
-add-wide c = omega arith
+index-requires : tie.Need-index-requires Inv-loop μ-loop
+index-requires c κs = tt
 
-element-copy-out-wide-2 : tie.Need-element-copy-out-wide-2 Inv-loop μ-loop
-element-copy-out-wide-2 c = omega arith
+add-index : tie.Need-add-index Inv-loop μ-loop
+add-index c = omega arith
 
-wide-requires-2 : tie.Need-wide-requires-2 Inv-loop μ-loop
-wide-requires-2 c κs = tt
+mul-index-2 : tie.Need-mul-index-2 Inv-loop μ-loop
+mul-index-2 c = omega arith
+
+element-copy-out-index-2 : tie.Need-element-copy-out-index-2 Inv-loop μ-loop
+element-copy-out-index-2 c = omega arith
+
+index-requires-2 : tie.Need-index-requires-2 Inv-loop μ-loop
+index-requires-2 c κs = tt
 
 loop-holds : tie.Need-loop-holds Inv-loop μ-loop
 loop-holds c =
     let start = c .before .before .before .before in (
       le-refl _,
-      rw (c .wide2 .ensures .0, c .before .before .wide .ensures .0) (start .pre .3),
+      rw (c .index2 .ensures, c .before .before .index .ensures) (start .pre .3),
       start .pre .2,
       leave-none _ _,
     )
@@ -48,7 +54,7 @@ loop-holds c =
 rank : (c : tie.In-loop Inv-loop μ-loop) → c .before .loop .i < 254
 rank c =
     let few = c .before .before .before .before .before .before .pre .4 in
-    let end = c .before .before .before .before .wide .ensures .0 in
+    let end = c .before .before .before .before .index .ensures in
     omega arith
 
 add-w : tie.Need-add-w Inv-loop μ-loop
@@ -82,7 +88,7 @@ returns : tie.Need-returns Inv-loop μ-loop
 returns c =
     let inv = c .before .loop .inv in
     let end = c .loop-test .left in
-    rw (← c .before .before .wide2 .ensures .0, ← c .before .before .before .before .wide .ensures .0) (leave-all _ _ (inv .1) (omega arith) (inv .3))
+    rw (← c .before .before .index2 .ensures, ← c .before .before .before .before .index .ensures) (leave-all _ _ (inv .1) (omega arith) (inv .3))
 
 pub leave-layer-spec : {M : Type 1} → statement M
 leave-layer-spec =
@@ -90,12 +96,14 @@ leave-layer-spec =
     (tie.spec
     Inv-loop
     μ-loop
-    sub-wide
-    element-copy-out-wide
-    wide-requires
-    add-wide
-    element-copy-out-wide-2
-    wide-requires-2
+    sub-index
+    mul-index
+    element-copy-out-index
+    index-requires
+    add-index
+    mul-index-2
+    element-copy-out-index-2
+    index-requires-2
     loop-holds
     add-w
     mul-w

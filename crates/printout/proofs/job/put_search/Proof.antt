@@ -9,7 +9,8 @@ use lib.Seq.{length-take-le, take-at}
 use borrow.Author.Needs.{needs}
 use Rattle.diagram.specs.Table.{tableOf, choiceCount}
 use Rattle.reading.proofs.Outcomes.{refused-read, table-choices}
-use Rattle.printout.proofs.Jobs.{choices-kept, scale-read, take-zeros, job-unread, job-refused, job-found}
+use Rattle.cost.proofs.Kits.{kits-length}
+use Rattle.printout.proofs.Jobs.{choices-kept, scale-read, take-zeros, job-unread, job-refused, job-found, cost-is}
 use Rattle.printout.proofs.job.put_search.Statement.{statement}
 use Rattle.printout.proofs.job.put_search.Tie as tie
 
@@ -99,28 +100,37 @@ returns-2 c =
     (c .before .before .put-refusal2 .ensures)
 
 array-share-prefix-plan : tie.Need-array-share-prefix-plan
-array-share-prefix-plan c = simp length-append (omega (arith, kept (c .before .before .before .before .before)))
+array-share-prefix-plan c = simp length-append (omega (arith, kept (c .before .before .before .before)))
 
-slice-aggregate-put-plan : tie.Need-slice-aggregate-put-plan
-slice-aggregate-put-plan c = rw (shown (c .before .before .before .before .before .before)) (sym (kept (c .before .before .before .before .before .before)))
+slice-aggregate-written : tie.Need-slice-aggregate-written
+slice-aggregate-written c = rw (shown (c .before .before .before .before .before)) (sym (kept (c .before .before .before .before .before)))
+
+kits-of-requires : tie.Need-kits-of-requires
+kits-of-requires c κs =
+    let open-plan = c .before .before .before .before .before .before .before .before .before in
+    omega (arith, kits-length (c .before .before .before .before .before .before .before .before .before .before .before .before .before .before .before .before .args .file .now), counted open-plan, few open-plan)
+
+cost-of-requires : tie.Need-cost-of-requires
+cost-of-requires c κs = rw (shown (c .before .before .before .before .before .before .before)) (omega (arith, kept (c .before .before .before .before .before .before .before), few (c .before .before .before .before .before .before .before .before .before .before .before)))
 
 put-plan-requires : tie.Need-put-plan-requires
 put-plan-requires c κs =
-    let start = c .before .before .before .before .before .before .before .before .before .before .before .before .before .before .before .before .before in
-    rw (shown (c .before .before .before .before .before .before)) (omega (arith, kept (c .before .before .before .before .before .before), few (c .before .before .before .before .before .before .before .before .before .before)), omega (arith, start .pre))
+    let searched = c .before .before .before .before .before .before .before .before .before in
+    rw (shown searched) (omega (arith, kept searched, few (searched .before .before .before .before)), omega (arith, searched .before .before .before .before .before .before .before .before .before .before .before .pre))
 
 same-length-3 : tie.Need-same-length-3
 same-length-3 c = search needs
 
 returns-3 : tie.Need-returns-3
 returns-3 c =
-    let start = c .before .before .before .before .before .before .before .before .before .before .before .before .before .before .before .before .before .before .before .before .args in
-    let read = c .before .before .before .before .before .before .before .before .before .before .before .before .before .before .before .before .before .read .ensures in
-    let table = c .before .before .before .before .before .before .before .before .before .before .before .before .before .before .before .t .given .1 in
-    let open-plan = c .before .before .before .before .before .before .before .before .before .before .before .before .before in
-    let searched = c .before .before .before .before .before .before .before .before .before .search .ensures .0 in
-    rw (job-found (start .file .now) (start .budget) (start .percent) _ _ searched (opened open-plan) (lent open-plan ∙ counted open-plan) _ (c .before .before .before .before .before .before .f .given .1) (table-choices _ read _ table) (scale-read _ read _ table))
-    (rw (shown (c .before .before .before .before .before .before .before .before .before)) at (c .before .before .put-plan .ensures))
+    let searched = c .before .before .before .before .before .before .before .before .before .before .before .before in
+    let open-plan = searched .before .before .before .before in
+    let start = open-plan .before .before .before .before .before .before .before .args in
+    let read = open-plan .before .before .before .before .read .ensures in
+    let table = open-plan .before .before .t .given .1 in
+    let cost = cost-is (start .file .now) _ _ (c .before .before .before .before .before .before .kits-of .ensures) (kept searched ∙ counted open-plan) in
+    rw (job-found (start .file .now) (start .budget) (start .percent) _ _ (searched .search .ensures .0) (opened open-plan) (lent open-plan ∙ counted open-plan) _ (c .before .before .before .before .before .before .before .before .before .f .given .1) (table-choices _ read _ table) (scale-read _ read _ table) (rw (shown searched) at (c .before .before .before .before .cost-of .ensures) ∙ cost))
+    (rw (shown searched) at (c .before .before .put-plan .ensures))
 
 pub put-search-spec : {M : Type 1} → statement M
 put-search-spec =
@@ -144,7 +154,9 @@ put-search-spec =
     same-length-2
     returns-2
     array-share-prefix-plan
-    slice-aggregate-put-plan
+    slice-aggregate-written
+    kits-of-requires
+    cost-of-requires
     put-plan-requires
     same-length-3
     returns-3)

@@ -11,26 +11,21 @@ use Rattle.printout.proofs.text.put_plan.Tie as tie
 -- where the first line ends, at the most
 first-ends : (c : tie.After-put-table) → c .put-table .result ≤ 56
 first-ends c =
-    let start = c .before .before .before .before .fits in
-    table-ends (c .put-table .ensures) (start .choices .fits) (start .scale .fits)
+    table-ends (c .put-table .ensures) (search needs) (search needs)
 
 -- where the second line ends, at the most
 second-ends : (c : tie.After-put-found) → c .put-found .result ≤ 137
 second-ends c =
-    let start = c .before .before .before .before .before .before .before .before .before .fits in
-    omega (arith, first-ends (c .before .before .before .before .before), found-ends (c .put-found .ensures) (omega (arith, c .before .taken-count .ok)) (start .score .fits) (start .visits .fits))
+    omega (arith, first-ends (c .before .before .before .before), found-ends (c .put-found .ensures) (search needs) (search needs) (search needs))
 
 put-table-requires : tie.Need-put-table-requires
 put-table-requires c κs = search needs
 
-taken-count-requires : tie.Need-taken-count-requires
-taken-count-requires c κs = search needs
-
 put-found-requires : tie.Need-put-found-requires
-put-found-requires c κs = omega (arith, first-ends (c .before .before .before .before), c .before .before .before .before .put-table .ensures .size)
+put-found-requires c κs = omega (arith, first-ends (c .before .before .before), c .before .before .before .put-table .ensures .size)
 
 put-marks-requires : tie.Need-put-marks-requires
-put-marks-requires c κs = (c .before .before .before .before .before .before .before .before .before .before .before .before .pre .0, omega (arith, second-ends (c .before .before .before), c .before .before .before .put-found .ensures .size, c .before .before .before .before .before .before .before .before .put-table .ensures .size))
+put-marks-requires c κs = (c .before .before .before .before .before .before .before .before .before .before .before .pre .0, omega (arith, second-ends (c .before .before .before), c .before .before .before .put-found .ensures .size, c .before .before .before .before .before .before .before .put-table .ensures .size))
 
 same-length : tie.Need-same-length
 same-length c = search needs
@@ -38,16 +33,14 @@ same-length c = search needs
 returns : tie.Need-returns
 unfolding fullText
 returns c =
-    let table = c .before .before .before .before .before .before .before .before .before .before .before .put-table .ensures in
-    let found = rw (c .before .before .before .before .before .before .before .taken-count .ensures) at (c .before .before .before .before .before .before .put-found .ensures) in
-    wrote-then (wrote-then table found) (c .before .before .put-marks .ensures)
+    let table = c .before .before .before .before .before .before .before .before .before .before .put-table .ensures in
+    wrote-then (wrote-then table (c .before .before .before .before .before .before .put-found .ensures)) (c .before .before .put-marks .ensures)
 
 pub put-plan-spec : {M : Type 1} → statement M
 put-plan-spec =
     tie.close
     (tie.spec
     put-table-requires
-    taken-count-requires
     put-found-requires
     put-marks-requires
     same-length

@@ -35,10 +35,10 @@ not-variable i w no-choice no-chance =
     let k = both (eqb (kind w) 3) (both (eqb (kind w) 3 && (leb 1 (fieldR w) && leb (fieldR w) 1000)) f .0) in
     let r = both (leb 1 (fieldR w)) (k .1) in
     no-chance p (eqb-true _ _ (k .0)) (leb-true _ _ (r .0)) (leb-true _ _ (r .1)))
-    (either (eqb (kind w) 2 && eqb (fieldQ w) 0 && eqb (fieldR w) 0) (both (eqb (fieldP w) i) e .1))))
+    (either (eqb (kind w) 2 && eqb (fieldQ w) 0 && leb (fieldR w) 500) (both (eqb (fieldP w) i) e .1))))
 
 -- where none of them fails, R decides of a choice, and Q against R of a chance
-choice-end : (i w : ℕ) → fieldP w ≡ i → kind w ≡ 2 → fieldQ w ≡ 0 → eqb (fieldR w) 0 ≡ isVariableWord i w
+choice-end : (i w : ℕ) → fieldP w ≡ i → kind w ≡ 2 → fieldQ w ≡ 0 → leb (fieldR w) 500 ≡ isVariableWord i w
 unfolding isVariableWord
 choice-end i w p k q =
     let other : kind w ≡ 3 → ⊥ = λ e. omega arith in

@@ -1,4 +1,5 @@
 -- `mark_line` meets its contract. Assumes nothing.
+use native.Mathlib.Omega.{arith}
 use borrow.Author.Needs.{needs}
 use Rattle.search.proofs.RankedLines.{read-mark, read-below}
 use Rattle.search.proofs.lines.mark_line.Statement.{statement}
@@ -7,8 +8,14 @@ use Rattle.search.proofs.lines.mark_line.Tie as tie
 add-new : tie.Need-add-new
 add-new c = search needs
 
+mul-new : tie.Need-mul-new
+mul-new c = search needs
+
 element-copy-out-new : tie.Need-element-copy-out-new
 element-copy-out-new c = search needs
+
+cast-new : tie.Need-cast-new
+cast-new c = omega (arith, c .before .pre .1)
 
 new-requires : tie.Need-new-requires
 new-requires c κs = search needs
@@ -27,7 +34,9 @@ mark-line-spec =
     tie.close
     (tie.spec
     add-new
+    mul-new
     element-copy-out-new
+    cast-new
     new-requires
     number-requires
     element-write-marks

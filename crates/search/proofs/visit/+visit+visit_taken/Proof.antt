@@ -8,7 +8,7 @@ use lib.Pow.{pow-pos}
 use borrow.Author.Needs.{needs}
 use borrow.Fn.Kinds.{In}
 use borrow.Fn.PlainCycle.{Measures, is, falls, and}
-use Rattle.search.proofs.VisitSteps.{visit-back, keep-ready, visit-full, visit-over, room-some, enter-ready, take-ready, drop-ready, first-ready, again-ready, visit-taken, leave-ready, second-ready, open-ready, visit-both}
+use Rattle.search.proofs.VisitSteps.{visit-back, keep-ready, visit-full, visit-over, enter-ready, take-ready, drop-ready, first-ready, again-ready, visit-taken, leave-ready, second-ready, open-ready, visit-both}
 use Rattle.search.proofs.visit.visit.Reads as visit
 use Rattle.search.proofs.visit.visit.Kinds as visit-kinds
 use Rattle.search.proofs.visit.+visit+visit_taken.Lts-visit as visit-lts
@@ -16,6 +16,7 @@ use Rattle.search.proofs.visit.visit_taken.Reads as taken
 use Rattle.search.proofs.visit.visit_taken.Kinds as taken-kinds
 use Rattle.search.proofs.visit.+visit+visit_taken.Lts-visit_taken as taken-lts
 use Rattle.search.proofs.lines.mark_line.Reads as mark-line-reads
+use Rattle.search.proofs.lines.line_kits.Reads as line-kits-reads
 use Rattle.incumbent.proofs.count.Reads as count-reads
 use Rattle.incumbent.proofs.goes_back.Reads as goes-back-reads
 use Rattle.incumbent.proofs.is_beaten.Reads as is-beaten-reads
@@ -27,12 +28,12 @@ use Rattle.search.proofs.visit.+visit+visit_taken.Tie.{close}
 
 abbrev μ-visit : Measures 9 visit-kinds.ps ℕ
 μ-visit κs a =
-    let unsettled = a .1 .1 .1 .1 .1 .1 .1 .1 .1 .0 in
+    let unsettled = a .0 in
     unsettled + unsettled
 
 abbrev μ-taken : Measures 9 taken-kinds.ps ℕ
 μ-taken κs a =
-    let unsettled = a .1 .1 .1 .1 .1 .1 .1 .1 .1 .0 in
+    let unsettled = a .0 in
     unsettled + unsettled + 1
 
 abbrev visit-at : ℕ → In 9 visit-kinds.ps
@@ -123,24 +124,19 @@ visit-mark-line-requires t c κs =
     let start = counted .before .before in
     take-ready (start .pre .1 .1 .0 .1) (start .pre .1 .0) (counted .count .ensures) (more .if2 .left)
 
-visit-sub-visit-taken : (t : ℕ) → visit-lts.Need-sub-visit-taken (R t) (visit-at t) visit.Post
-visit-sub-visit-taken t c =
-    let stays = c .before .before .before .before .before .before .before .before .before in
-    let tested = stays .before in
-    let counted = tested .before .before in
-    let start = counted .before .before in
-    room-some (start .pre .1 .1 .0 .1) (start .pre .1 .0) (counted .count .ensures) (tested .goes-back .ensures) (stays .if1 .left)
-
 visit-visit-taken-requires : (t : ℕ) → visit-lts.Need-visit-taken-requires (R t) (visit-at t) visit.Post
 visit-visit-taken-requires t c κs =
     let took = c .before .before .before .before in
     let layer = took .before .before in
     let more = layer .before .before in
     let counted = more .before .before .before .before in
-    let start = counted .before .before in (
+    let start = counted .before .before in
+    let r =
+    first-ready (start .pre .1 .1 .0 .1) (start .pre .1 .0) (counted .count .ensures) (more .if2 .left) (layer .enter-layer .ensures .1)
+    (took .mark-line .ensures) (start .pre .1 .1 .1) in
+    let few = take-ready (start .pre .1 .1 .0 .1) (start .pre .1 .0) (counted .count .ensures) (more .if2 .left) .0 in (
       omega (arith, start .pre .0, more .if2 .left),
-      first-ready (start .pre .1 .1 .0 .1) (start .pre .1 .0) (counted .count .ensures) (more .if2 .left) (layer .enter-layer .ensures .1)
-          (took .mark-line .ensures) (start .pre .1 .1 .1),
+      (r .0, (r .1 .0, (r .1 .1, omega (arith, few, more .if2 .left)))),
     )
 
 visit-sub-left : (t : ℕ) → visit-lts.Need-sub-left (R t) (visit-at t) visit.Post
@@ -257,26 +253,34 @@ visit-returns-4 t c =
 -- `visit_taken`
 
 abbrev S : ℕ → taken-lts.Claims
-S t = (count-reads.Asked, count-reads.Learnt, visit-below t, visit.Post)
+S t = (line-kits-reads.Asked, line-kits-reads.Learnt, count-reads.Asked, count-reads.Learnt, visit-below t, visit.Post)
+
+taken-line-kits-requires : (t : ℕ) → taken-lts.Need-line-kits-requires (S t) (taken-at t) taken.Post
+taken-line-kits-requires t c κs = c .pre .1 .1 .1 .1
 
 taken-count-requires : (t : ℕ) → taken-lts.Need-count-requires (S t) (taken-at t) taken.Post
 taken-count-requires t c κs =
-    let start = c .before .before in
+    let start = c .before .before .before in
     let pre = start .pre .1 in
-    (pre .0 .3, omega (arith, pre .1 .1, pow-pos (suc (start .args .unsettled))))
+    (pre .0 .3, omega (arith, pre .1 .1 .0, pow-pos (suc (start .args .unsettled))))
 
 taken-returns : (t : ℕ) → taken-lts.Need-returns (S t) (taken-at t) taken.Post
 taken-returns t c =
     let over = c .before .before in
-    λ g given. visit-over given (over .before .pre .1 .0) (c .count .ensures) (over .if1 .taken)
+    let kits = over .before .line-kits .ensures in
+    λ g given. visit-over given (over .before .before .pre .1 .0) (c .count .ensures) (omega (arith, over .if1 .taken, kits))
+
+taken-sub-visit : (t : ℕ) → taken-lts.Need-sub-visit (S t) (taken-at t) taken.Post
+taken-sub-visit t c = omega (arith, c .before .before .before .before .if1 .left)
 
 taken-visit-requires : (t : ℕ) → taken-lts.Need-visit-requires (S t) (taken-at t) taken.Post
 taken-visit-requires t c κs =
-    let start = c .before .before .before .before .before in
-    (omega (arith, start .pre .0), start .pre .1)
+    let start = c .before .before .before .before .before .before in
+    let e = c .before .before .before .before .before .line-kits .ensures in
+    (omega (arith, start .pre .0), (start .pre .1 .0, ((start .pre .1 .1 .0 .0, rw e (start .pre .1 .1 .0 .1)), start .pre .1 .1 .1 .0)))
 
 taken-returns-2 : (t : ℕ) → taken-lts.Need-returns-2 (S t) (taken-at t) taken.Post
-taken-returns-2 t c = c .visit .ensures
+taken-returns-2 t c = λ g given. c .visit .ensures g (rw (c .before .before .before .before .before .before .line-kits .ensures) given)
 
 pub +visit+visit-taken-spec : {M : Type 1} → statement M
 +visit+visit-taken-spec =
@@ -291,7 +295,6 @@ pub +visit+visit-taken-spec : {M : Type 1} → statement M
     (visit-enter-layer-requires t)
     (visit-sub-next t)
     (visit-mark-line-requires t)
-    (visit-sub-visit-taken t)
     (visit-visit-taken-requires t)
     (visit-sub-left t)
     (visit-is-beaten-requires t)
@@ -305,7 +308,9 @@ pub +visit+visit-taken-spec : {M : Type 1} → statement M
     λ t. taken-lts.spec (S t)
     (taken-at t)
     taken.Post
+    (taken-line-kits-requires t)
     (taken-count-requires t)
     (taken-returns t)
+    (taken-sub-visit t)
     (taken-visit-requires t)
     (taken-returns-2 t)

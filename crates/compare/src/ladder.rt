@@ -1,0 +1,47 @@
+// Tables of four records a position, each of which holds wherever the one before it does: what is taken or holds leads up or
+// nowhere, what is left or does not hold down or nowhere. Many of their plans score the same, so that the kits decide.
+use crate::draw::draw;
+use crate::draw::fork;
+use crate::draw::least;
+use crate::draw::minus;
+use crate::draw::plus;
+use crate::draw::times;
+use crate::file::File;
+use crate::file::Word;
+use crate::variables::LINES;
+use crate::variables::with_variables;
+
+// A table whose root is one of the four records of the first position.
+pub fn ladder(seed: usize) -> File {
+    let v = plus(3, draw(seed, 1, 6));
+    let n = minus(times(4, v), draw(seed, 2, 4));
+    let varied = with_variables(File::started(v, n), fork(seed, 3), LINES);
+    with_records(varied, fork(seed, 4))
+}
+
+// The file with its records, from the last position up.
+fn with_records(file: File, seed: usize) -> File {
+    let n = file.records();
+    let mut now = file;
+    let mut k = 0;
+    while k < n {
+        let w = record(now, seed, k);
+        now = now.with_word(now.at_node(plus(k, 2)), w);
+        k += 1;
+    }
+    now
+}
+
+// A record by its number.
+fn record(file: File, seed: usize, k: usize) -> Word {
+    let p = minus(file.variables(), plus(1, k / 4));
+    let column = k % 4;
+    if k < 4 {
+        return Word::record(p, least(column, 1), column / 3);
+    }
+    let own = fork(seed, p);
+    let below = minus(k, plus(column, 2));
+    let up = least(plus(column, draw(own, 1, 2)), 3);
+    let down = minus(column, draw(own, 2, 2));
+    Word::record(p, plus(below, up), plus(below, down))
+}

@@ -1,0 +1,3 @@
+-- Laws of kits and costs.
+pub mod Kits
+pub mod Steps

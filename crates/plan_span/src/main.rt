@@ -1,0 +1,4 @@
+// The program `plan`, run on a job of 1,000 kits, and a table as long as can be whose lines take 201 to 501 (tests/make_limits.py).
+fn main() {
+    console::run();
+}
