@@ -202,10 +202,9 @@ paper2 =
     -- the visit rule: with 500 kits, P 52 and Q 7, a river span of 501 is a visit that goes back, - -, T -, L - and L T. The printed kits are the plan's.
     ∷ record { requests = printed (0x5D ∷ 0x00 ∷ 0x38 ∷ 0x32 ∷ river0 0xF4) ∷ []; answers = answered (lineOne 4) ∷ [] }
     -- "P plus 64 times Q": 64 kits are Q 1, 502 are P 54 and Q 7, 10,020 are P 36 and Q 156
-    ∷ record {
-      requests = printed (0x50 ∷ 0x00 ∷ 0x08 ∷ 0x32 ∷ tableA) ∷ printed (0x5D ∷ 0x80 ∷ 0x38 ∷ 0x32 ∷ river0 0xF4) ∷ printed (0x59 ∷ 0x04 ∷ 0xE0 ∷ 0x32 ∷ river1 0xF4) ∷ [];
-      answers = answered (bothLines (50 ∷ [])) ∷ answered (bothLines (53 ∷ 48 ∷ 50 ∷ [])) ∷ answered (bothLines (53 ∷ 48 ∷ 50 ∷ [])) ∷ [];
-    }
+    ∷ record { requests = printed (0x50 ∷ 0x00 ∷ 0x08 ∷ 0x32 ∷ tableA) ∷ []; answers = answered (bothLines (50 ∷ [])) ∷ [] }
+    ∷ record { requests = printed (0x5D ∷ 0x80 ∷ 0x38 ∷ 0x32 ∷ river0 0xF4) ∷ []; answers = answered (bothLines (53 ∷ 48 ∷ 50 ∷ [])) ∷ [] }
+    ∷ record { requests = printed (0x59 ∷ 0x04 ∷ 0xE0 ∷ 0x32 ∷ river1 0xF4) ∷ []; answers = answered (bothLines (53 ∷ 48 ∷ 50 ∷ [])) ∷ [] }
     -- "Refusal 10 no longer looks at Q": 10,021 kits, 16,384, which are Q 256, and 131,071, all of P and Q
     ∷ record {
       requests = printed (0x59 ∷ 0x44 ∷ 0xE0 ∷ 0x32 ∷ tableA) ∷ printed (0x50 ∷ 0x08 ∷ 0x00 ∷ 0x32 ∷ tableA) ∷ printed (0x5F ∷ 0xFF ∷ 0xF8 ∷ 0x32 ∷ tableA) ∷ [];
@@ -218,10 +217,16 @@ pub twelve : length starred ≡ 12
 unfolding starred
 twelve = refl
 
--- Each request has the answer that document 01 gives, or paper 1 or 2 of document 02
-pub starredHold : map (λ c. map answerTo (c .requests)) (starred ++ paper1 ++ paper2) ≡ map (λ c. c .answers) (starred ++ paper1 ++ paper2)
-unfolding starred paper1 paper2 lineOne bothLines tooManyKits answerTo tableA certainA river0 river1 twoWays tableB allOpen numbers wordAt sequence variableCount recordCount variableOf recordOf kitsOf tableOf recordAt root isChoice choiceCount scaleOf scale walk truth settlings weight sum total scoreFrom score assignments every implies completions openTaken openCount costOf cost isOpen leaves upperBound derivative derivatives passes noneOf passing forced forcedPlan countOf forcedCount takesFirst ranksBefore better firstRanked isCandidate select bestPlan beaten goesBack lowestOpen visit visited visitCount placeZero firstPlace jobFault lengthFault isHeading headingFault countFault isVariableWord variableFault choiceFault scaleFault positionOf isChild isRecordWord recordFault isMonotoneAt monotoneFault planLengthFault planMarkFault fullPlanFault percentFault budgetFault bufferFault jobChecks tableChecks scoreChecks sweepChecks filterChecks searchChecks checked written reading readOutcome scoreOutcome sweepOutcome sweepBuffer filtering filterOutcome filterBuffer searching searchOutcome searchBuffer digits decimal refusedWord choicesWord scaleWord kitsWord scoreWord visitsWord takeWord leftWord line markLines refusalText planText searchText jobOutcome jobKits programOutcome printout
-starredHold = refl
+-- Every request of every case has the answer that is given
+unfoldable pub AllHold : List Case → Type 0
+AllHold [] = Unit {0}
+AllHold (c ∷ cs) = (map answerTo (c .requests) ≡ c .answers) × AllHold cs
+
+-- The cases of document 01, and of papers 1 and 2 of document 02, hold: each is computed
+pub starredHold : AllHold (starred ++ paper1 ++ paper2)
+unfolding AllHold starred paper1 paper2 lineOne bothLines tooManyKits answerTo tableA certainA river0 river1 twoWays tableB allOpen numbers wordAt sequence variableCount recordCount variableOf recordOf kitsOf tableOf recordAt root isChoice choiceCount scaleOf scale walk truth settlings weight sum total scoreFrom score assignments every implies completions openTaken openCount costOf cost isOpen leaves upperBound derivative derivatives passes noneOf passing forced forcedPlan countOf forcedCount takesFirst ranksBefore better firstRanked isCandidate select bestPlan beaten goesBack lowestOpen visit visited visitCount placeZero firstPlace jobFault lengthFault isHeading headingFault countFault isVariableWord variableFault choiceFault scaleFault positionOf isChild isRecordWord recordFault isMonotoneAt monotoneFault planLengthFault planMarkFault fullPlanFault percentFault budgetFault bufferFault jobChecks tableChecks scoreChecks sweepChecks filterChecks searchChecks checked written reading readOutcome scoreOutcome sweepOutcome sweepBuffer filtering filterOutcome filterBuffer searching searchOutcome searchBuffer digits decimal refusedWord choicesWord scaleWord kitsWord scoreWord visitsWord takeWord leftWord line markLines refusalText planText searchText jobOutcome jobKits programOutcome printout
+starredHold =
+    (refl, (refl, (refl, (refl, (refl, (refl, (refl, (refl, (refl, (refl, (refl, (refl, (refl, (refl, (refl, (refl, (refl, (refl, (refl, (refl, (refl, (refl, (refl, (refl, (refl, tt)))))))))))))))))))))))))
 
 -- What the filter answers for table A at 0, 1 .. 100 percent. Paper 1: "50 forces nothing; 60 forces line 1 only; 80 forces both; 31 first comes at 81"
 unfoldable pub everyPercentage : List (Outcome (List ℕ))

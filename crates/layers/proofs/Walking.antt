@@ -7,7 +7,7 @@ use mathlib.Core.Path.{_≡_, refl, _∙_}
 use mathlib.Core.Logic.{⊎-elim}
 use mathlib.Core.List.{List}
 use lib.ListN.{length, getD, length-set}
-use Rattle.layers.specs.Layers.{Layers, flowSum, inflow, put, passNode, passNodes, ownNode, ownNodes, dropSum, leaveNode, leaveNodes}
+use Rattle.layers.specs.Layers.{Layers, Sized, flowSum, inflow, put, passNode, passNodes, ownNode, ownNodes, dropSum, leaveNode, leaveNodes}
 
 -- ---------------------------------------------------------------------------
 -- What arcs bring
@@ -54,6 +54,17 @@ module _ (ss ws cells : List ℕ) (from : ℕ) where
   flow-all {j} {to} h k e =
       let end : j ≡ to = omega arith in
       e ∙ rw end refl
+
+-- The arcs into a node are those between two starts
+module _ (l : Layers) {n i at end : ℕ} (cells : List ℕ) (sized : Sized l n) (less : i < n) (begins : at ≡ getD (l .starts) i 0) (ends : end ≡ getD (l .starts) (i + 1) 0) where
+  pub node-ready : inflow l cells i ≤ 2 ^ 56 → ((m : ℕ) × (end ≡ at + suc m + suc m)) × (end ≤ 1024) × ((j : ℕ) → getD (l .sources) j 0 < 512) × (flowSum (l .sources) (l .arcs) cells at (end - at) ≤ 2 ^ 56)
+  unfolding inflow
+  node-ready fits =
+      (rw (begins, ends) (sized .pairs i less), rw ends (sized .within (i + 1) (omega arith)), sized .sources, rw (begins, ends) fits)
+
+  pub node-flow : {w : ℕ} → w ≡ flowSum (l .sources) (l .arcs) cells at (end - at) → w ≡ inflow l cells i
+  unfolding inflow
+  node-flow e = rw (← begins, ← ends) e
 
 -- ---------------------------------------------------------------------------
 -- Nodes that hand on by both arcs

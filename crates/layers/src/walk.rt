@@ -27,7 +27,7 @@ pub fn enter_layer(
     enter(starts, sources, arcs, losses, cells, own, to)
 }
 
-// The nodes from one rank to another hand on what comes to them.
+// The nodes from one rank to another hand on what comes to them. A node's arcs begin where those of the node before end.
 fn pass(
     starts: &[u16; 256],
     sources: &[u16; 1024],
@@ -39,10 +39,13 @@ fn pass(
     requires { ⌜ (from ≤ to) × (length (now cells) ≡ 512) × ((n : ℕ) × Sized (record { starts = now starts; sources = now sources; arcs = now arcs }) n × (to ≤ n) × ((i : ℕ) → from + i < to → inflow (record { starts = now starts; sources = now sources; arcs = now arcs }) (passNodes (record { starts = now starts; sources = now sources; arcs = now arcs }) from i (now cells)) (from + i) ≤ 2 ^ 56)) ⌝ }
     ensures { λ _. ⌜ now (cells .exit) ≡ passNodes (record { starts = now (starts .entry); sources = now (sources .entry); arcs = now (arcs .entry) }) from (to - from) (now (cells .entry)) ⌝ }
 {
+    let mut at = index(starts[from]);
     let mut i = from;
     while i < to {
-        let w = flow_at(starts, sources, arcs, cells, i);
+        let end = index(starts[i + 1]);
+        let w = flow(sources, arcs, cells, at, end);
         put_both(cells, i, w, w);
+        at = end;
         i += 1;
     }
 }
@@ -62,11 +65,14 @@ fn enter(
     ensures cells { λ _. ⌜ now (cells .exit) ≡ ownNodes (record { starts = now (starts .entry); sources = now (sources .entry); arcs = now (arcs .entry) }) from (to - from) (now (cells .entry)) ⌝ }
 {
     let mut drop = 0;
+    let mut at = index(starts[from]);
     let mut i = from;
     while i < to {
-        let w = flow_at(starts, sources, arcs, cells, i);
+        let end = index(starts[i + 1]);
+        let w = flow(sources, arcs, cells, at, end);
         put_both(cells, i, w, 0);
         drop = drop + w * losses[i];
+        at = end;
         i += 1;
     }
     drop
@@ -101,26 +107,6 @@ fn put_both(cells: &mut [u64; 512], i: usize, high: u64, low: u64)
 {
     cells[i + 2] = high;
     cells[i + 258] = low;
-}
-
-// What comes to the node at a rank.
-fn flow_at(
-    starts: &[u16; 256],
-    sources: &[u16; 1024],
-    arcs: &[u64; 1024],
-    cells: &[u64; 512],
-    i: usize,
-) -> u64
-    requires { ⌜ ((n : ℕ) × Sized (record { starts = now starts; sources = now sources; arcs = now arcs }) n × (i < n) × (inflow (record { starts = now starts; sources = now sources; arcs = now arcs }) (now cells) i ≤ 2 ^ 56)) ⌝ }
-    ensures { λ r. ⌜ r ≡ inflow (record { starts = now (starts .entry); sources = now (sources .entry); arcs = now (arcs .entry) }) (now (cells .entry)) i ⌝ }
-{
-    flow(
-        sources,
-        arcs,
-        cells,
-        starts[i] as usize,
-        starts[i + 1] as usize,
-    )
 }
 
 // What the arcs from one place of their list to another bring, which are one pair or more.

@@ -1,77 +1,109 @@
--- `pass` meets its contract. The loop's invariant: the cells are those that the nodes so far leave. The measure is the number of nodes left.
--- Assumes nothing.
+-- `pass` meets its contract. The loop's invariant: the cells are those that the nodes so far leave, and the next node's arcs begin at `at`. The measure is
+-- the number of nodes left. Assumes nothing.
 use Prim.Native.Nat.{_-_, _≤_, _<_}
 use native.Mathlib.Nat.{le-refl}
 use native.Mathlib.Omega.{arith}
 use mathlib.Core.Path.{_≡_}
-use lib.ListN.{length}
+use lib.ListN.{length, getD}
 use Rattle.layers.specs.Layers.{Layers, passNodes}
-use Rattle.layers.proofs.Walking.{pass-none, pass-next, pass-fits, pass-all, put-length}
+use Rattle.layers.proofs.Walking.{node-ready, node-flow, pass-none, pass-next, pass-fits, pass-all, put-length}
 use Rattle.layers.proofs.walk.pass.Statement.{statement}
 use Rattle.layers.proofs.walk.pass.Tie as tie
 
 abbrev Inv-loop : tie.InvT-loop
-Inv-loop starts sources arcs cells₀ from to i₀ cells i =
+Inv-loop starts sources arcs cells₀ from to at₀ i₀ cells at i =
     (from ≤ i)
     × (i ≤ to)
     × (length cells ≡ 512)
     × (cells ≡ passNodes (record { starts = starts; sources = sources; arcs = arcs }) from (i - from) cells₀)
+    × (at ≡ getD starts i 0)
 
 abbrev μ-loop : tie.MeasureT-loop
-μ-loop starts sources arcs cells₀ from to i₀ cells i = to - i
+μ-loop starts sources arcs cells₀ from to at₀ i₀ cells at i = to - i
 
 abbrev layers : tie.Start Inv-loop μ-loop → Layers
 layers c = record { starts = c .args .starts .now; sources = c .args .sources .now; arcs = c .args .arcs .now }
 
+-- the first rank is small
+first : (c : tie.Start Inv-loop μ-loop) → c .args .from ≤ 254
+first c = omega (arith, c .pre .0, c .pre .2 .2, c .pre .2 .1 .few)
+
+mul-index : tie.Need-mul-index Inv-loop μ-loop
+mul-index c = omega (arith, first c)
+
+element-copy-out-index : tie.Need-element-copy-out-index Inv-loop μ-loop
+element-copy-out-index c = omega (arith, first c)
+
+index-requires : tie.Need-index-requires Inv-loop μ-loop
+index-requires c κs = tt
+
 loop-holds : tie.Need-loop-holds Inv-loop μ-loop
-loop-holds c = (le-refl _, c .pre .0, c .pre .1, pass-none (layers c) _ _)
+loop-holds c =
+    let start = c .before .before in
+    (le-refl _, start .pre .0, start .pre .1, pass-none (layers start) _ _, c .index .ensures)
 
 -- the rank of a turn is that of a node
-rank : (c : tie.In-loop Inv-loop μ-loop) → c .before .loop .i < c .before .before .pre .2 .0
+rank : (c : tie.In-loop Inv-loop μ-loop) → c .before .loop .i < c .before .before .before .before .pre .2 .0
 rank c =
-    let end = c .before .before .pre .2 .2 in
+    let end = c .before .before .before .before .pre .2 .2 in
     omega arith
-
-flow-at-requires : tie.Need-flow-at-requires Inv-loop μ-loop
-flow-at-requires c κs =
-    let start = c .before .before .before in
-    let inv = c .before .before .loop .inv in (
-      start .pre .2 .0,
-      start .pre .2 .1,
-      rank (c .before),
-      pass-fits (layers start) _ _ (inv .0) (c .before .loop-test .taken) (start .pre .2 .3) (inv .3),
-    )
 
 -- and so it is small
 small : (c : tie.In-loop Inv-loop μ-loop) → c .before .loop .i < 254
 small c =
-    let few = c .before .before .pre .2 .1 .few in
-    let less = rank c in
-    omega arith
+    let few = c .before .before .before .before .pre .2 .1 .few in
+    omega (arith, rank c)
+
+add-index : tie.Need-add-index Inv-loop μ-loop
+add-index c = omega (arith, small c)
+
+mul-index-2 : tie.Need-mul-index-2 Inv-loop μ-loop
+mul-index-2 c = omega (arith, small c)
+
+element-copy-out-index-2 : tie.Need-element-copy-out-index-2 Inv-loop μ-loop
+element-copy-out-index-2 c = omega (arith, small c)
+
+index-requires-2 : tie.Need-index-requires-2 Inv-loop μ-loop
+index-requires-2 c κs = tt
+
+flow-requires : tie.Need-flow-requires Inv-loop μ-loop
+flow-requires c κs =
+    let turn = c .before .before .before in
+    let inv = turn .before .loop .inv in
+    let start = turn .before .before .before .before in
+    node-ready (layers start) _ (start .pre .2 .1) (rank turn) (inv .4) (c .before .index2 .ensures)
+    (pass-fits (layers start) _ _ (inv .0) (turn .loop-test .taken) (start .pre .2 .3) (inv .3))
 
 put-both-requires : tie.Need-put-both-requires Inv-loop μ-loop
-put-both-requires c κs = (small (c .before .before .before), c .before .before .before .before .loop .inv .2)
+put-both-requires c κs =
+    let turn = c .before .before .before .before .before in
+    (small turn, turn .before .loop .inv .2)
 
 add-i : tie.Need-add-i Inv-loop μ-loop
-add-i c = omega (arith, small (c .before .before .before .before))
+add-i c = omega (arith, small (c .before .before .before .before .before .before))
 
 loop-less : tie.Need-loop-less Inv-loop μ-loop
 loop-less c = omega arith
 
 loop-again : tie.Need-loop-again Inv-loop μ-loop
 loop-again c =
-    let at = c .before .before .before .before .before in
-    let inv = at .loop .inv in (
+    let ended = c .before .before .before .before in
+    let turn = ended .before .before in
+    let inv = turn .before .loop .inv in
+    let start = turn .before .before .before .before in
+    let next = ended .index2 .ensures in
+    let flow = node-flow (layers start) _ (start .pre .2 .1) (rank turn) (inv .4) next (c .before .before .flow .ensures) in (
       omega arith,
       omega arith,
       rw (c .put-both .ensures, put-length) (inv .2),
-      pass-next (layers (at .before)) _ _ (inv .0) (inv .3) (c .before .before .flow-at .ensures) (c .put-both .ensures),
+      pass-next (layers start) _ _ (inv .0) (inv .3) flow (c .put-both .ensures),
+      next,
     )
 
 returns : tie.Need-returns Inv-loop μ-loop
 returns c =
     let inv = c .before .loop .inv in
-    pass-all (layers (c .before .before)) _ _ (inv .1) (omega arith) (inv .3)
+    pass-all (layers (c .before .before .before .before)) _ _ (inv .1) (omega arith) (inv .3)
 
 pub pass-spec : {M : Type 1} → statement M
 pass-spec =
@@ -79,8 +111,15 @@ pass-spec =
     (tie.spec
     Inv-loop
     μ-loop
+    mul-index
+    element-copy-out-index
+    index-requires
     loop-holds
-    flow-at-requires
+    add-index
+    mul-index-2
+    element-copy-out-index-2
+    index-requires-2
+    flow-requires
     put-both-requires
     add-i
     loop-less
