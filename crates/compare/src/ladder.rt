@@ -8,6 +8,7 @@ use crate::draw::plus;
 use crate::draw::times;
 use crate::file::File;
 use crate::file::Word;
+use crate::records::with_records;
 use crate::variables::LINES;
 use crate::variables::with_variables;
 
@@ -16,24 +17,11 @@ pub fn ladder(seed: usize) -> File {
     let v = plus(3, draw(seed, 1, 6));
     let n = minus(times(4, v), draw(seed, 2, 4));
     let varied = with_variables(File::started(v, n), fork(seed, 3), LINES);
-    with_records(varied, fork(seed, 4))
+    with_records(varied, fork(seed, 4), LINES)
 }
 
-// The file with its records, from the last position up.
-fn with_records(file: File, seed: usize) -> File {
-    let n = file.records();
-    let mut now = file;
-    let mut k = 0;
-    while k < n {
-        let w = record(now, seed, k);
-        now = now.with_word(now.at_node(plus(k, 2)), w);
-        k += 1;
-    }
-    now
-}
-
-// A record by its number.
-fn record(file: File, seed: usize, k: usize) -> Word {
+// A record by its number, from the last position up.
+pub fn record(file: File, seed: usize, k: usize) -> Word {
     let p = minus(file.variables(), plus(1, k / 4));
     let column = k % 4;
     if k < 4 {

@@ -8,6 +8,7 @@ mod draw;
 mod file;
 mod ladder;
 mod marks;
+mod records;
 mod requests;
 mod tables;
 mod tally;

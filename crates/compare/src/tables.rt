@@ -9,6 +9,7 @@ use crate::draw::plus;
 use crate::draw::times;
 use crate::file::File;
 use crate::file::Word;
+use crate::records::with_records;
 use crate::variables::MIXED;
 use crate::variables::with_variables;
 
@@ -21,7 +22,8 @@ pub struct Pair {
 // A table. Its size, the b of its chances and the way its records are made are drawn once for all of it.
 pub fn table(seed: usize) -> File {
     let started = File::started(variable_count(seed), record_count(seed));
-    with_records(with_variables(started, fork(seed, 1), MIXED), fork(seed, 2))
+    let varied = with_variables(started, fork(seed, 1), MIXED);
+    with_records(varied, fork(seed, 2), MIXED)
 }
 
 // Mostly up to 7, and up to 10.
@@ -38,22 +40,8 @@ fn record_count(seed: usize) -> usize {
     plus(1, larger(draw(seed, 7, 24), draw(seed, 8, 24)))
 }
 
-// The file with its records.
-fn with_records(file: File, seed: usize) -> File {
-    let n = file.records();
-    let mut now = file;
-    let mut k = 0;
-    while k < n {
-        let node = plus(k, 2);
-        let w = record(now, seed, node);
-        now = now.with_word(now.at_node(node), w);
-        k += 1;
-    }
-    now
-}
-
 // The record of a node, made from the nodes before it. Some are equal to one of these.
-fn record(file: File, seed: usize, node: usize) -> Word {
+pub fn record(file: File, seed: usize, node: usize) -> Word {
     let own = fork(seed, node);
     if 2 < node && once_in(own, 15, 12) {
         return file.node(minus(node, plus(1, draw(own, 16, minus(node, 2)))));

@@ -8,7 +8,7 @@ use crate::draw::plus;
 use crate::file::File;
 use crate::file::Word;
 
-// The kinds of tables by their variables: a mixed table, a wide one, and one that is mostly lines.
+// The kinds of tables by their variables and their records: a mixed table, a wide one, and one that is mostly lines.
 pub const MIXED: u8 = 0;
 
 pub const WIDE: u8 = 1;

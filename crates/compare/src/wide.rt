@@ -6,6 +6,7 @@ use crate::draw::minus;
 use crate::draw::plus;
 use crate::file::File;
 use crate::file::Word;
+use crate::records::with_records;
 use crate::variables::WIDE;
 use crate::variables::with_variables;
 
@@ -13,20 +14,7 @@ pub fn wide(seed: usize) -> File {
     let v = minus(60, draw(seed, 1, 40));
     let n = minus(254, draw(seed, 2, 254));
     let varied = with_variables(File::started(v, n), fork(seed, 3), WIDE);
-    with_fault(with_records(varied), fork(seed, 4))
-}
-
-// The file with its records, each right and each alike.
-fn with_records(file: File) -> File {
-    let n = file.records();
-    let v = file.variables();
-    let mut now = file;
-    let mut k = 0;
-    while k < n {
-        now = now.with_word(plus(1, plus(v, k)), Word::record(0, 1, 0));
-        k += 1;
-    }
-    now
+    with_fault(with_records(varied, seed, WIDE), fork(seed, 4))
 }
 
 // The file with one record that is wrong.

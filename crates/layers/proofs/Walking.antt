@@ -7,7 +7,7 @@ use mathlib.Core.Path.{_≡_, refl, _∙_}
 use mathlib.Core.Logic.{⊎-elim}
 use mathlib.Core.List.{List}
 use lib.ListN.{length, getD, length-set}
-use Rattle.layers.specs.Layers.{Layers, Sized, flowSum, inflow, put, passNode, passNodes, ownNode, ownNodes, dropSum, leaveNode, leaveNodes}
+use Rattle.layers.specs.Layers.{Layers, Sized, flowSum, inflow, put, passNode, passNodes, PassFits, ownNode, ownNodes, OwnFits, dropSum, leaveNode, leaveNodes}
 
 -- ---------------------------------------------------------------------------
 -- What arcs bring
@@ -81,7 +81,7 @@ module _ (l : Layers) (from : ℕ) (cells₀ : List ℕ) where
       let here : from + (i - from) ≡ i = omega arith in
       rw (one, here, ← e, ← ew) e′
 
-  pub pass-fits : {i to : ℕ} {cells : List ℕ} → from ≤ i → i < to → ((k : ℕ) → from + k < to → inflow l (passNodes l from k cells₀) (from + k) ≤ 2 ^ 56) → cells ≡ passNodes l from (i - from) cells₀ → inflow l cells i ≤ 2 ^ 56
+  pub pass-fits : {i to : ℕ} {cells : List ℕ} → from ≤ i → i < to → PassFits l from to cells₀ → cells ≡ passNodes l from (i - from) cells₀ → inflow l cells i ≤ 2 ^ 56
   pass-fits {i} h less fits e =
       let here : from + (i - from) ≡ i = omega arith in
       rw e (rw here at (fits (i - from) (omega arith)))
@@ -106,7 +106,7 @@ module _ (l : Layers) (from : ℕ) (cells₀ : List ℕ) where
       let here : from + (i - from) ≡ i = omega arith in
       rw (one, here, ← e, ← ew) e′
 
-  pub own-fits : {i to : ℕ} {cells : List ℕ} → from ≤ i → i < to → ((k : ℕ) → from + k < to → inflow l (ownNodes l from k cells₀) (from + k) ≤ 2 ^ 56) → cells ≡ ownNodes l from (i - from) cells₀ → inflow l cells i ≤ 2 ^ 56
+  pub own-fits : {i to : ℕ} {cells : List ℕ} → from ≤ i → i < to → OwnFits l from to cells₀ → cells ≡ ownNodes l from (i - from) cells₀ → inflow l cells i ≤ 2 ^ 56
   own-fits {i} h less fits e =
       let here : from + (i - from) ≡ i = omega arith in
       rw e (rw here at (fits (i - from) (omega arith)))

@@ -13,6 +13,9 @@ pub record Layers : Type 0 where
   pub sources : List ℕ
   pub arcs : List ℕ
 
+abbrev pub layersOf : (starts sources arcs : List ℕ) → Layers
+layersOf starts sources arcs = record { starts = starts; sources = sources; arcs = arcs }
+
 -- The layout of n records is within its arrays, and the arcs into each node are pairs
 pub record Sized (l : Layers) (n : ℕ) : Type 0 where
   pub few : n ≤ 254
@@ -51,6 +54,14 @@ unfoldable pub ownNodes : Layers → (i n : ℕ) → (cells : List ℕ) → List
 ownNodes l i zero cells = cells
 ownNodes l i (suc n) cells = ownNode l (i + n) (ownNodes l i n cells)
 
+-- What comes to each node from one rank to another fits, where these nodes hand on by both arcs
+abbrev pub PassFits : Layers → (from to : ℕ) → (cells : List ℕ) → Type 0
+PassFits l from to cells = (i : ℕ) → from + i < to → inflow l (passNodes l from i cells) (from + i) ≤ 2 ^ 56
+
+-- and where they are of a line taken
+abbrev pub OwnFits : Layers → (from to : ℕ) → (cells : List ℕ) → Type 0
+OwnFits l from to cells = (i : ℕ) → from + i < to → inflow l (ownNodes l from i cells) (from + i) ≤ 2 ^ 56
+
 -- What leaving the line of n nodes from rank i on loses: at each node what comes to it, times its loss
 unfoldable pub dropSum : Layers → (losses : List ℕ) → (i n : ℕ) → (cells : List ℕ) → ℕ
 dropSum l losses i zero cells = 0
@@ -65,11 +76,26 @@ unfoldable pub leaveNodes : (i n : ℕ) → (cells : List ℕ) → List ℕ
 leaveNodes i zero cells = cells
 leaveNodes i (suc n) cells = leaveNode (i + n) (leaveNodes i n cells)
 
+-- The cells after the layer of the lowest of so many unsettled lines, up to the line's own nodes. The array of lines has the layer's ranks: at that place
+-- where it begins, 21 places on where the line's own nodes do, one place before where they end.
+abbrev pub layerPassed : Layers → (lines : List ℕ) → (unsettled : ℕ) → (cells : List ℕ) → List ℕ
+layerPassed l lines unsettled cells = passNodes l (getD lines unsettled 0) (getD lines (unsettled + 21) 0 - getD lines unsettled 0) cells
+
+-- The cells after the whole layer, with the line taken
+abbrev pub layerEntered : Layers → (lines : List ℕ) → (unsettled : ℕ) → (cells : List ℕ) → List ℕ
+layerEntered l lines unsettled cells =
+    ownNodes l (getD lines (unsettled + 21) 0) (getD lines (unsettled - 1) 0 - getD lines (unsettled + 21) 0) (layerPassed l lines unsettled cells)
+
+-- What leaving the line loses
+abbrev pub layerDrop : Layers → (losses lines : List ℕ) → (unsettled : ℕ) → (cells : List ℕ) → ℕ
+layerDrop l losses lines unsettled cells =
+    dropSum l losses (getD lines (unsettled + 21) 0) (getD lines (unsettled - 1) 0 - getD lines (unsettled + 21) 0) (layerPassed l lines unsettled cells)
+
 -- The layer of an open line: the ranks from the line before it to its own first record, and from there to the one after its last. All sums fit.
 pub record Enterable (l : Layers) (losses : List ℕ) (n from own to : ℕ) (cells : List ℕ) : Type 0 where
   pub sized : Sized l n
   pub bounds : (from ≤ own) × (own ≤ to) × (to ≤ n)
   pub long : length cells ≡ 512
-  pub passes : (i : ℕ) → from + i < own → inflow l (passNodes l from i cells) (from + i) ≤ 2 ^ 56
-  pub enters : (i : ℕ) → own + i < to → inflow l (ownNodes l own i (passNodes l from (own - from) cells)) (own + i) ≤ 2 ^ 56
+  pub passes : PassFits l from own cells
+  pub enters : OwnFits l own to (passNodes l from (own - from) cells)
   pub drops : dropSum l losses own (to - own) (passNodes l from (own - from) cells) ≤ 2 ^ 56

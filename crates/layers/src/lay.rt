@@ -8,6 +8,7 @@ ghost use mathlib.Core.Path.{_≡_};
 ghost use Prim.Native.Nat.{ℕ, _≤_, _<_};
 ghost use lib.ListN.{length, getD, replicate};
 ghost use Rattle.layers.specs.Chains.{arcsInOrder};
+ghost use Rattle.layers.specs.Layers.{layersOf};
 ghost use Rattle.layers.specs.Weighed.{Laid};
 
 // Lays out the arcs into the first n nodes of the order: where each node's begin, and for each arc the cell that it starts from
@@ -28,7 +29,7 @@ pub fn lay_arcs(
     requires nodes { ⌜ (n ≤ 254) × ((i : ℕ) → i < n → (2 ≤ getD (now order) i 0) × (getD (now order) i 0 < 256)) × ((i j : ℕ) → i < n → j < n → getD (now order) i 0 ≡ getD (now order) j 0 → i ≡ j) ⌝ }
     requires fits { ⌜ ((k : ℕ) → getD (now positions) k 0 < 64) × (length (arcsInOrder (now high) (now low) (now order) n n) ≤ 1024) ⌝ }
     requires zeros { ⌜ (now starts ≡ replicate 256 0) × (now sources ≡ replicate 1024 0) × (now arcs ≡ replicate 1024 0) ⌝ }
-    ensures { λ _. ⌜ Laid n (now (positions .entry)) (now (high .entry)) (now (low .entry)) (now («high_arcs» .entry)) (now («low_arcs» .entry)) (now (marks .entry)) (now (order .entry)) (record { starts = now (starts .exit); sources = now (sources .exit); arcs = now (arcs .exit) }) ⌝ }
+    ensures { λ _. ⌜ Laid n (now (positions .entry)) (now (high .entry)) (now (low .entry)) (now («high_arcs» .entry)) (now («low_arcs» .entry)) (now (marks .entry)) (now (order .entry)) (layersOf (now (starts .exit)) (now (sources .exit)) (now (arcs .exit))) ⌝ }
 {
     let mut list = [0u16; 1024];
     order_arcs(n, high, low, order, &mut list, starts);

@@ -2,7 +2,7 @@
 ghost use mathlib.Core.Path.{_≡_};
 ghost use Prim.Native.Nat.{ℕ, suc, _+_, _-_, _*_, _≤_, _<_, _^_};
 ghost use lib.ListN.{length, getD};
-ghost use Rattle.layers.specs.Layers.{Sized, flowSum, inflow, put, passNodes, ownNodes, dropSum, leaveNodes, Enterable};
+ghost use Rattle.layers.specs.Layers.{layersOf, Sized, flowSum, put, passNodes, PassFits, ownNodes, OwnFits, dropSum, leaveNodes, layerEntered, layerDrop, Enterable};
 
 // Enters the layer of the lowest of `unsettled` open lines, whose ranks `lines` has: the nodes before the line hand their weights on
 // by both arcs, the line's own by their hi arcs, as if it were taken. Answers what leaving the line loses. The arrays
@@ -16,9 +16,9 @@ pub fn enter_layer(
     cells: &mut [u64; 512],
     unsettled: usize,
 ) -> u64
-    requires { ⌜ (1 ≤ unsettled) × (unsettled ≤ 20) × ((n : ℕ) × Enterable (record { starts = now starts; sources = now sources; arcs = now arcs }) (now losses) n (getD (now lines) unsettled 0) (getD (now lines) (unsettled + 21) 0) (getD (now lines) (unsettled - 1) 0) (now cells)) ⌝ }
-    ensures drop { λ r. ⌜ r ≡ dropSum (record { starts = now (starts .entry); sources = now (sources .entry); arcs = now (arcs .entry) }) (now (losses .entry)) (getD (now (lines .entry)) (unsettled + 21) 0) (getD (now (lines .entry)) (unsettled - 1) 0 - getD (now (lines .entry)) (unsettled + 21) 0) (passNodes (record { starts = now (starts .entry); sources = now (sources .entry); arcs = now (arcs .entry) }) (getD (now (lines .entry)) unsettled 0) (getD (now (lines .entry)) (unsettled + 21) 0 - getD (now (lines .entry)) unsettled 0) (now (cells .entry))) ⌝ }
-    ensures cells { λ _. ⌜ now (cells .exit) ≡ ownNodes (record { starts = now (starts .entry); sources = now (sources .entry); arcs = now (arcs .entry) }) (getD (now (lines .entry)) (unsettled + 21) 0) (getD (now (lines .entry)) (unsettled - 1) 0 - getD (now (lines .entry)) (unsettled + 21) 0) (passNodes (record { starts = now (starts .entry); sources = now (sources .entry); arcs = now (arcs .entry) }) (getD (now (lines .entry)) unsettled 0) (getD (now (lines .entry)) (unsettled + 21) 0 - getD (now (lines .entry)) unsettled 0) (now (cells .entry))) ⌝ }
+    requires { ⌜ (1 ≤ unsettled) × (unsettled ≤ 20) × ((n : ℕ) × Enterable (layersOf (now starts) (now sources) (now arcs)) (now losses) n (getD (now lines) unsettled 0) (getD (now lines) (unsettled + 21) 0) (getD (now lines) (unsettled - 1) 0) (now cells)) ⌝ }
+    ensures drop { λ r. ⌜ r ≡ layerDrop (layersOf (now (starts .entry)) (now (sources .entry)) (now (arcs .entry))) (now (losses .entry)) (now (lines .entry)) unsettled (now (cells .entry)) ⌝ }
+    ensures cells { λ _. ⌜ now (cells .exit) ≡ layerEntered (layersOf (now (starts .entry)) (now (sources .entry)) (now (arcs .entry))) (now (lines .entry)) unsettled (now (cells .entry)) ⌝ }
 {
     let from = lines[unsettled] as usize;
     let own = lines[unsettled + 21] as usize;
@@ -27,7 +27,7 @@ pub fn enter_layer(
     enter(starts, sources, arcs, losses, cells, own, to)
 }
 
-// The nodes from one rank to another hand on what comes to them. A node's arcs begin where those of the node before end.
+// The nodes from one rank to another hand on what comes to them.
 fn pass(
     starts: &[u16; 256],
     sources: &[u16; 1024],
@@ -36,13 +36,13 @@ fn pass(
     from: usize,
     to: usize,
 )
-    requires { ⌜ (from ≤ to) × (length (now cells) ≡ 512) × ((n : ℕ) × Sized (record { starts = now starts; sources = now sources; arcs = now arcs }) n × (to ≤ n) × ((i : ℕ) → from + i < to → inflow (record { starts = now starts; sources = now sources; arcs = now arcs }) (passNodes (record { starts = now starts; sources = now sources; arcs = now arcs }) from i (now cells)) (from + i) ≤ 2 ^ 56)) ⌝ }
-    ensures { λ _. ⌜ now (cells .exit) ≡ passNodes (record { starts = now (starts .entry); sources = now (sources .entry); arcs = now (arcs .entry) }) from (to - from) (now (cells .entry)) ⌝ }
+    requires { ⌜ (from ≤ to) × (length (now cells) ≡ 512) × ((n : ℕ) × Sized (layersOf (now starts) (now sources) (now arcs)) n × (to ≤ n) × PassFits (layersOf (now starts) (now sources) (now arcs)) from to (now cells)) ⌝ }
+    ensures { λ _. ⌜ now (cells .exit) ≡ passNodes (layersOf (now (starts .entry)) (now (sources .entry)) (now (arcs .entry))) from (to - from) (now (cells .entry)) ⌝ }
 {
-    let mut at = index(starts[from]);
+    let mut at = start_of(starts, from);
     let mut i = from;
     while i < to {
-        let end = index(starts[i + 1]);
+        let end = start_of(starts, i + 1);
         let w = flow(sources, arcs, cells, at, end);
         put_both(cells, i, w, w);
         at = end;
@@ -60,15 +60,15 @@ fn enter(
     from: usize,
     to: usize,
 ) -> u64
-    requires { ⌜ (from ≤ to) × (length (now cells) ≡ 512) × ((n : ℕ) × Sized (record { starts = now starts; sources = now sources; arcs = now arcs }) n × (to ≤ n) × ((i : ℕ) → from + i < to → inflow (record { starts = now starts; sources = now sources; arcs = now arcs }) (ownNodes (record { starts = now starts; sources = now sources; arcs = now arcs }) from i (now cells)) (from + i) ≤ 2 ^ 56) × (dropSum (record { starts = now starts; sources = now sources; arcs = now arcs }) (now losses) from (to - from) (now cells) ≤ 2 ^ 56)) ⌝ }
-    ensures drop { λ r. ⌜ r ≡ dropSum (record { starts = now (starts .entry); sources = now (sources .entry); arcs = now (arcs .entry) }) (now (losses .entry)) from (to - from) (now (cells .entry)) ⌝ }
-    ensures cells { λ _. ⌜ now (cells .exit) ≡ ownNodes (record { starts = now (starts .entry); sources = now (sources .entry); arcs = now (arcs .entry) }) from (to - from) (now (cells .entry)) ⌝ }
+    requires { ⌜ (from ≤ to) × (length (now cells) ≡ 512) × ((n : ℕ) × Sized (layersOf (now starts) (now sources) (now arcs)) n × (to ≤ n) × OwnFits (layersOf (now starts) (now sources) (now arcs)) from to (now cells) × (dropSum (layersOf (now starts) (now sources) (now arcs)) (now losses) from (to - from) (now cells) ≤ 2 ^ 56)) ⌝ }
+    ensures drop { λ r. ⌜ r ≡ dropSum (layersOf (now (starts .entry)) (now (sources .entry)) (now (arcs .entry))) (now (losses .entry)) from (to - from) (now (cells .entry)) ⌝ }
+    ensures cells { λ _. ⌜ now (cells .exit) ≡ ownNodes (layersOf (now (starts .entry)) (now (sources .entry)) (now (arcs .entry))) from (to - from) (now (cells .entry)) ⌝ }
 {
     let mut drop = 0;
-    let mut at = index(starts[from]);
+    let mut at = start_of(starts, from);
     let mut i = from;
     while i < to {
-        let end = index(starts[i + 1]);
+        let end = start_of(starts, i + 1);
         let w = flow(sources, arcs, cells, at, end);
         put_both(cells, i, w, 0);
         drop = drop + w * losses[i];
@@ -98,6 +98,14 @@ fn index(rank: u16) -> usize
     ensures { λ r. ⌜ r ≡ rank ⌝ }
 {
     rank as usize
+}
+
+// Where the arcs into the node at a rank begin, and those into the node before it end.
+fn start_of(starts: &[u16; 256], rank: usize) -> usize
+    requires { ⌜ rank < 256 ⌝ }
+    ensures { λ r. ⌜ r ≡ getD (now (starts .entry)) rank 0 ⌝ }
+{
+    index(starts[rank])
 }
 
 // Writes the two cells of the node at a rank.

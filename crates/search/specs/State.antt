@@ -9,6 +9,7 @@ use Rattle.diagram.specs.Score as scores
 use Rattle.diagram.specs.Plans.{openTaken, openCount, cost, upperBound, LeastPassing}
 use Rattle.diagram.specs.Visits as visits
 use Rattle.diagram.specs.declared.plan.Plan.{Plan}
+use Rattle.search.specs.declared.explore.Limits.{Limits}
 use Rattle.scoring.specs.Value.{place, gap, highArc, lowArc}
 use Rattle.scoring.specs.Passes.{over, byNode, Decoded, marksByPosition}
 use Rattle.rule.specs.Rule.{terms, rule}
@@ -138,6 +139,12 @@ pub record Visited (g : Scene) (from counted : ℕ) (cells marks cells′ marks�
   pub kept : marks′ ≡ marks
   pub same : Same from cells cells′
 
+-- So much a visit leaves, from arrays and numbers that a scene fits
+abbrev pub VisitLeaves : Layers → (losses lines cells marks best tally : List ℕ) → (unsettled room bound : ℕ) → (cells′ marks′ best′ tally′ : List ℕ) → Type 0
+VisitLeaves l losses lines cells marks best tally unsettled room bound cells′ marks′ best′ tally′ =
+    (g : Scene) → Visitable g l losses lines cells marks best tally unsettled room bound →
+    Visited g (getD lines unsettled 0) (getD tally 2 0) cells marks cells′ marks′ best′ tally′
+
 -- ---------------------------------------------------------------------------
 -- The start and the end of a search
 
@@ -176,3 +183,9 @@ pub record Arranged (t : Table) (p : List ℕ) (weight bound : ℕ) (ends order 
 pub record Explored (t : Table) (percent budget least : ℕ) (p best tally : List ℕ) : Type 0 where
   pub holds : Holds t budget least (visits.visited t budget percent p .held) best tally
   pub counts : getD tally 2 0 ≡ visits.visited t budget percent p .visits
+
+-- What a search of a file from a plan leaves held and counted, within limits whose least score passes at some percentage
+abbrev pub ExploredWithin : (file plan : List ℕ) → Limits → (best tally : List ℕ) → Type 0
+ExploredWithin file plan limits best tally =
+    (percent : ℕ) → LeastPassing (tableOf file) percent (limits .least) →
+    Explored (priced (take (length plan) (limits .kits)) (tableOf file)) percent (limits .budget) (limits .least) plan best tally

@@ -3,6 +3,7 @@ use crate::lines::line_ranks;
 use crate::lines::open_lines;
 use crate::visit::visit;
 use cost::cost_of;
+use cost::kits_of;
 use diagram::Node;
 use diagram::Plan;
 use layers::lay_arcs;
@@ -18,12 +19,13 @@ use sweep::by_choice;
 ghost use mathlib.Core.Path.{_≡_};
 ghost use mathlib.Core.List.{List};
 ghost use Prim.Native.Nat.{ℕ, _+_, _-_, _≤_};
-ghost use lib.ListN.{length, getD, take};
+ghost use lib.ListN.{length, getD};
 ghost use Rattle.diagram.specs.Table.{tableOf, choiceCount};
 ghost use Rattle.diagram.specs.Plans.{LeastPassing};
 ghost use Rattle.diagram.proofs.Checked.{Passed};
 ghost use Rattle.scoring.specs.Passes.{Decoded, marksByPosition};
-ghost use Rattle.search.specs.State.{priced, Arrays, Ordered, Arranged, Explored};
+ghost use Rattle.layers.specs.Layers.{layersOf};
+ghost use Rattle.search.specs.State.{padded, Arrays, Ordered, Arranged, ExploredWithin};
 
 // Every position by its own number, to be picked from.
 const POSITIONS: [u64; 64] = [
@@ -93,15 +95,32 @@ const POSITIONS: [u64; 64] = [
     63,
 ];
 
+// What limits a search: the kits that each line takes, the kits that there are, and the least score that passes.
+pub struct Limits {
+    pub kits: [u16; 20],
+    pub budget: u32,
+    pub least: u64,
+}
+
+// The limits of a search where the lines take the file's own kits. The file has at most 20 choices, as check 15 leaves it.
+pub fn limits_of(file: &[u8], budget: u32, least: u64) -> Limits
+    requires { ⌜ length (tableOf (now file) .kits) ≤ 20 ⌝ }
+    ensures { λ r. ⌜ (r .kits ≡ padded (tableOf (now (file .entry)) .kits)) × (r .budget ≡ budget) × (r .least ≡ least) ⌝ }
+{
+    let kits = kits_of(file);
+    Limits {
+        kits,
+        budget,
+        least,
+    }
+}
+
 // What is held and counted after the search of a file that has passed every check, from a plan that the checks 21 and 22 let
-// through, where the lines take these kits; `least` is the least score that passes. The arrays hold the file's records, as
-// `accept` leaves them.
+// through. The arrays hold the file's records, as `accept` leaves them.
 pub fn explore(
     file: &[u8],
     plan: &[u8],
-    kits: &[u16; 20],
-    budget: u32,
-    least: u64,
+    limits: Limits,
     positions: &[u8; 256],
     high: &[u8; 256],
     low: &[u8; 256],
@@ -110,10 +129,10 @@ pub fn explore(
 )
     requires passed { ⌜ Passed (now file) ⌝ }
     requires plan { ⌜ (length (now plan) ≡ choiceCount (tableOf (now file) .variables)) × ((i : ℕ) → getD (now plan) i 0 ≤ 2) ⌝ }
-    requires least { ⌜ (budget ≤ 10020) × ((percent : ℕ) × LeastPassing (tableOf (now file)) percent least) ⌝ }
+    requires least { ⌜ (limits .budget ≤ 10020) × ((percent : ℕ) × LeastPassing (tableOf (now file)) percent (limits .least)) ⌝ }
     requires records { ⌜ Decoded (now file) (now positions) (now high) (now low) ⌝ }
     requires sizes { ⌜ (length (now best) ≡ 20) × (length (now tally) ≡ 3) ⌝ }
-    ensures { λ _. ⌜ ((percent : ℕ) → LeastPassing (tableOf (now (file .entry))) percent least → Explored (priced (take (length (now (plan .entry))) (now (kits .entry))) (tableOf (now (file .entry)))) percent budget least (now (plan .entry)) (now (best .exit)) (now (tally .exit))) ⌝ }
+    ensures { λ _. ⌜ ExploredWithin (now (file .entry)) (now (plan .entry)) limits (now (best .exit)) (now (tally .exit)) ⌝ }
 {
     let n = record_count(file);
     let mut high_arcs = [0u64; 256];
@@ -123,9 +142,7 @@ pub fn explore(
     arrange(
         file,
         plan,
-        kits,
-        budget,
-        least,
+        limits,
         best,
         tally,
         n,
@@ -143,9 +160,7 @@ pub fn explore(
 fn arrange(
     file: &[u8],
     plan: &[u8],
-    kits: &[u16; 20],
-    budget: u32,
-    least: u64,
+    limits: Limits,
     best: &mut [u8; 20],
     tally: &mut [u64; 3],
     n: usize,
@@ -159,16 +174,15 @@ fn arrange(
 )
     requires passed { ⌜ Passed (now file) ⌝ }
     requires plan { ⌜ (length (now plan) ≡ choiceCount (tableOf (now file) .variables)) × ((i : ℕ) → getD (now plan) i 0 ≤ 2) ⌝ }
-    requires least { ⌜ (budget ≤ 10020) × ((percent : ℕ) × LeastPassing (tableOf (now file)) percent least) ⌝ }
+    requires least { ⌜ (limits .budget ≤ 10020) × ((percent : ℕ) × LeastPassing (tableOf (now file)) percent (limits .least)) ⌝ }
     requires sizes { ⌜ (length (now best) ≡ 20) × (length (now tally) ≡ 3) ⌝ }
     requires arrays { ⌜ Arrays (now file) n weight (now positions) (now high) (now low) (now «high_arcs») (now «low_arcs») ⌝ }
     requires marks { ⌜ now marks ≡ marksByPosition (tableOf (now file)) (now plan) ⌝ }
-    ensures { λ _. ⌜ ((percent : ℕ) → LeastPassing (tableOf (now (file .entry))) percent least → Explored (priced (take (length (now (plan .entry))) (now (kits .entry))) (tableOf (now (file .entry)))) percent budget least (now (plan .entry)) (now (best .exit)) (now (tally .exit))) ⌝ }
+    ensures { λ _. ⌜ ExploredWithin (now (file .entry)) (now (plan .entry)) limits (now (best .exit)) (now (tally .exit)) ⌝ }
 {
-    let v = variable_count(file) as usize;
     let mut order = [0u16; 1024];
     let mut ends = [0u16; 256];
-    order_records(n, v, positions, &mut order, &mut ends);
+    order_records(n, variable_count(file), positions, &mut order, &mut ends);
     let mut starts = [0u16; 256];
     let mut sources = [0u16; 1024];
     let mut arcs = [0u64; 1024];
@@ -188,9 +202,7 @@ fn arrange(
     evaluate(
         file,
         plan,
-        kits,
-        budget,
-        least,
+        limits,
         best,
         tally,
         n,
@@ -213,9 +225,7 @@ fn arrange(
 fn evaluate(
     file: &[u8],
     plan: &[u8],
-    kits: &[u16; 20],
-    budget: u32,
-    least: u64,
+    limits: Limits,
     best: &mut [u8; 20],
     tally: &mut [u64; 3],
     n: usize,
@@ -234,11 +244,11 @@ fn evaluate(
 )
     requires passed { ⌜ Passed (now file) ⌝ }
     requires plan { ⌜ (length (now plan) ≡ choiceCount (tableOf (now file) .variables)) × ((i : ℕ) → getD (now plan) i 0 ≤ 2) ⌝ }
-    requires least { ⌜ (budget ≤ 10020) × ((percent : ℕ) × LeastPassing (tableOf (now file)) percent least) ⌝ }
+    requires least { ⌜ (limits .budget ≤ 10020) × ((percent : ℕ) × LeastPassing (tableOf (now file)) percent (limits .least)) ⌝ }
     requires sizes { ⌜ (length (now best) ≡ 20) × (length (now tally) ≡ 3) ⌝ }
     requires arrays { ⌜ Arrays (now file) n weight (now positions) (now high) (now low) (now «high_arcs») (now «low_arcs») ⌝ }
-    requires ordered { ⌜ Ordered (now file) (now plan) n (now positions) (now high) (now low) (now «high_arcs») (now «low_arcs») (now marks) (now ends) (now order) (record { starts = now starts; sources = now sources; arcs = now arcs }) ⌝ }
-    ensures { λ _. ⌜ ((percent : ℕ) → LeastPassing (tableOf (now (file .entry))) percent least → Explored (priced (take (length (now (plan .entry))) (now (kits .entry))) (tableOf (now (file .entry)))) percent budget least (now (plan .entry)) (now (best .exit)) (now (tally .exit))) ⌝ }
+    requires ordered { ⌜ Ordered (now file) (now plan) n (now positions) (now high) (now low) (now «high_arcs») (now «low_arcs») (now marks) (now ends) (now order) (layersOf (now starts) (now sources) (now arcs)) ⌝ }
+    ensures { λ _. ⌜ ExploredWithin (now (file .entry)) (now (plan .entry)) limits (now (best .exit)) (now (tally .exit)) ⌝ }
 {
     let mut values = [0u64; 256];
     values_of(
@@ -266,9 +276,7 @@ fn evaluate(
     first_visit(
         file,
         plan,
-        kits,
-        budget,
-        least,
+        limits,
         best,
         tally,
         weight,
@@ -285,9 +293,7 @@ fn evaluate(
 fn first_visit(
     file: &[u8],
     plan: &[u8],
-    kits: &[u16; 20],
-    budget: u32,
-    least: u64,
+    limits: Limits,
     best: &mut [u8; 20],
     tally: &mut [u64; 3],
     weight: u64,
@@ -300,21 +306,22 @@ fn first_visit(
 )
     requires passed { ⌜ Passed (now file) ⌝ }
     requires plan { ⌜ (length (now plan) ≡ choiceCount (tableOf (now file) .variables)) × ((i : ℕ) → getD (now plan) i 0 ≤ 2) ⌝ }
-    requires least { ⌜ (budget ≤ 10020) × ((percent : ℕ) × LeastPassing (tableOf (now file)) percent least) ⌝ }
+    requires least { ⌜ (limits .budget ≤ 10020) × ((percent : ℕ) × LeastPassing (tableOf (now file)) percent (limits .least)) ⌝ }
     requires sizes { ⌜ (length (now best) ≡ 20) × (length (now tally) ≡ 3) ⌝ }
-    requires arranged { ⌜ ((order : List ℕ) × Arranged (tableOf (now file)) (now plan) weight bound (now ends) order (record { starts = now starts; sources = now sources; arcs = now arcs }) (now losses)) ⌝ }
-    ensures { λ _. ⌜ ((percent : ℕ) → LeastPassing (tableOf (now (file .entry))) percent least → Explored (priced (take (length (now (plan .entry))) (now (kits .entry))) (tableOf (now (file .entry)))) percent budget least (now (plan .entry)) (now (best .exit)) (now (tally .exit))) ⌝ }
+    requires arranged { ⌜ ((order : List ℕ) × Arranged (tableOf (now file)) (now plan) weight bound (now ends) order (layersOf (now starts) (now sources) (now arcs)) (now losses)) ⌝ }
+    ensures { λ _. ⌜ ExploredWithin (now (file .entry)) (now (plan .entry)) limits (now (best .exit)) (now (tally .exit)) ⌝ }
 {
     let places = by_choice(file, &POSITIONS);
     let start = Plan::of_marks(plan);
     let open = open_lines(start);
     let numbers = open.numbers;
+    let kits = limits.kits;
     let mut lines = [0u16; 84];
-    line_ranks(open.count, &numbers, &places, ends, kits, &mut lines);
+    line_ranks(open.count, &numbers, &places, ends, &kits, &mut lines);
     let mut cells = [0u64; 512];
     cells[1] = weight;
     let mut marks = start.marks;
-    tally[0] = least;
+    tally[0] = limits.least;
     tally[1] = 0;
     tally[2] = 0;
     visit(
@@ -328,7 +335,7 @@ fn first_visit(
         &mut marks,
         best,
         tally,
-        room_of(budget as u64, cost_of(plan, kits)),
+        room_of(limits.budget as u64, cost_of(plan, &kits)),
         bound,
     )
 }

@@ -6,10 +6,10 @@ mod visit;
 
 pub use answer::Finding;
 pub use answer::SearchAnswer;
-use cost::kits_of;
 use diagram::Refusal;
 use diagram::least_passing;
 use explore::explore;
+use explore::limits_of;
 use sweep::RequestAnswer;
 use sweep::accept;
 ghost use mathlib.Core.Path.{_≡_};
@@ -44,12 +44,11 @@ pub fn search(file: &[u8], plan: &[u8], budget: u32, percent: u32, out: &mut [u8
     };
     let mut best = [0u8; 20];
     let mut tally = [0u64; 3];
+    let limits = limits_of(file, budget, least_passing(percent, t.scale));
     explore(
         file,
         plan,
-        &kits_of(file),
-        budget,
-        least_passing(percent, t.scale),
+        limits,
         &positions,
         &high,
         &low,

@@ -11,7 +11,8 @@ use layers::leave_layer;
 ghost use mathlib.Core.Path.{_≡_};
 ghost use Prim.Native.Nat.{suc, _+_, _-_, _≤_, _<_, _^_};
 ghost use lib.ListN.{length, getD};
-ghost use Rattle.search.specs.State.{Scene, Visitable, Visited};
+ghost use Rattle.layers.specs.Layers.{layersOf};
+ghost use Rattle.search.specs.State.{Scene, Visitable, VisitLeaves};
 
 // Visits a plan with so many unsettled lines, such room and such a bound, whose marks are handed in, and leaves what is held and
 // counted then; the marks are as before. Lines, starts, sources, arcs and losses hold a table laid out for the search, and the
@@ -32,9 +33,9 @@ pub fn visit(
     bound: u64,
 )
     requires sizes { ⌜ (length (now cells) ≡ 512) × (length (now marks) ≡ 20) × (length (now best) ≡ 20) × (length (now tally) ≡ 3) ⌝ }
-    requires { ⌜ ((g : Scene) × Visitable g (record { starts = now starts; sources = now sources; arcs = now arcs }) (now losses) (now lines) (now cells) (now marks) (now best) (now tally) unsettled room bound) ⌝ }
+    requires { ⌜ ((g : Scene) × Visitable g (layersOf (now starts) (now sources) (now arcs)) (now losses) (now lines) (now cells) (now marks) (now best) (now tally) unsettled room bound) ⌝ }
     requires visits { ⌜ getD (now tally) 2 0 + 2 ^ suc unsettled ≤ 2 ^ 63 ⌝ }
-    ensures { λ _. ⌜ ((g : Scene) → Visitable g (record { starts = now (starts .entry); sources = now (sources .entry); arcs = now (arcs .entry) }) (now (losses .entry)) (now (lines .entry)) (now (cells .entry)) (now (marks .entry)) (now (best .entry)) (now (tally .entry)) unsettled room bound → Visited g (getD (now (lines .entry)) unsettled 0) (getD (now (tally .entry)) 2 0) (now (cells .entry)) (now (marks .entry)) (now (cells .exit)) (now (marks .exit)) (now (best .exit)) (now (tally .exit))) ⌝ }
+    ensures { λ _. ⌜ VisitLeaves (layersOf (now (starts .entry)) (now (sources .entry)) (now (arcs .entry))) (now (losses .entry)) (now (lines .entry)) (now (cells .entry)) (now (marks .entry)) (now (best .entry)) (now (tally .entry)) unsettled room bound (now (cells .exit)) (now (marks .exit)) (now (best .exit)) (now (tally .exit)) ⌝ }
 {
     count(tally);
     if goes_back(tally, room, bound) {
@@ -102,9 +103,9 @@ fn visit_taken(
     bound: u64,
 )
     requires sizes { ⌜ (length (now cells) ≡ 512) × (length (now marks) ≡ 20) × (length (now best) ≡ 20) × (length (now tally) ≡ 3) ⌝ }
-    requires { ⌜ ((g : Scene) × Visitable g (record { starts = now starts; sources = now sources; arcs = now arcs }) (now losses) (now lines) (now cells) (now marks) (now best) (now tally) unsettled (room - getD (now lines) (unsettled + 64) 0) bound) ⌝ }
+    requires { ⌜ ((g : Scene) × Visitable g (layersOf (now starts) (now sources) (now arcs)) (now losses) (now lines) (now cells) (now marks) (now best) (now tally) unsettled (room - getD (now lines) (unsettled + 64) 0) bound) ⌝ }
     requires visits { ⌜ (getD (now tally) 2 0 + 2 ^ suc unsettled ≤ 2 ^ 63) × (unsettled < 20) ⌝ }
-    ensures { λ _. ⌜ ((g : Scene) → Visitable g (record { starts = now (starts .entry); sources = now (sources .entry); arcs = now (arcs .entry) }) (now (losses .entry)) (now (lines .entry)) (now (cells .entry)) (now (marks .entry)) (now (best .entry)) (now (tally .entry)) unsettled (room - getD (now (lines .entry)) (unsettled + 64) 0) bound → Visited g (getD (now (lines .entry)) unsettled 0) (getD (now (tally .entry)) 2 0) (now (cells .entry)) (now (marks .entry)) (now (cells .exit)) (now (marks .exit)) (now (best .exit)) (now (tally .exit))) ⌝ }
+    ensures { λ _. ⌜ VisitLeaves (layersOf (now (starts .entry)) (now (sources .entry)) (now (arcs .entry))) (now (losses .entry)) (now (lines .entry)) (now (cells .entry)) (now (marks .entry)) (now (best .entry)) (now (tally .entry)) unsettled (room - getD (now (lines .entry)) (unsettled + 64) 0) bound (now (cells .exit)) (now (marks .exit)) (now (best .exit)) (now (tally .exit)) ⌝ }
 {
     let kits = line_kits(lines, unsettled);
     if room <= kits {

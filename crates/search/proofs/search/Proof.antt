@@ -34,19 +34,19 @@ request-scale : (c : tie.After-known-told) → c .before .t .given .0 .0 .scale 
 request-scale c = accepted-scale _ _ _ _ _ (c .before .before .before .accept .ensures .0) _ (c .before .t .given .1)
 
 -- the least score that passes
-least : (c : tie.After-least-passing) →
-    let a = c .before .before .before .before .before .before .before .before .before .before .before .before .before .args in
-    LeastPassing (tableOf (a .file .now)) (a .percent) (c .least-passing .result)
-least c = c .least-passing .ensures _ (request-scale (c .before .before .before))
+least : (c : tie.After-limits-of) →
+    let a = c .before .before .before .before .before .before .before .before .before .before .before .before .args in
+    LeastPassing (tableOf (a .file .now)) (a .percent) (c .limits-of .result .least)
+least c = rw (c .limits-of .ensures .2) (c .before .least-passing .ensures _ (request-scale (c .before .before)))
 
 -- what the visits hold and have counted
 explored : (c : tie.After-explore) →
-    let a = c .before .before .before .before .before .before .before .before .before .before .before .before .before .before .before .before .before .before .before .args in
-    Explored (tableOf (a .file .now)) (a .percent) (a .budget) (c .before .before .before .before .before .before .least-passing .result) (a .plan .now) (c .explore .last .1 .1 .1 .1 .1 .1 .1 .1 .0) (c .explore .last .1 .1 .1 .1 .1 .1 .1 .1 .1 .0)
+    let a = c .before .before .before .before .before .before .before .before .before .before .before .before .before .before .before .before .before .before .args in
+    Explored (tableOf (a .file .now)) (a .percent) (a .budget) (c .before .before .before .before .before .before .limits-of .result .least) (a .plan .now) (c .explore .last .1 .1 .1 .1 .1 .1 .0) (c .explore .last .1 .1 .1 .1 .1 .1 .1 .0)
 explored c =
-    let passing = c .before .before .before .before .before .before in
-    let ok = request-proper (passing .before .before .before) in
-    rw (passing .before .before .kits-of .ensures, kits-first _ _ (ok .long), priced-own) at (c .explore .ensures _ (least passing))
+    let limits = c .before .before .before .before .before .before in
+    let ok = request-proper (limits .before .before) in
+    rw (limits .limits-of .ensures .0, limits .limits-of .ensures .1, kits-first _ _ (ok .long), priced-own) at (c .explore .ensures _ (least limits))
 
 accept-requires : tie.Need-accept-requires
 accept-requires c κs = search needs
@@ -61,25 +61,27 @@ returns : tie.Need-returns
 returns c =
     search-turned _ _ _ _ _ _ (refused-request _ _ _ _ _ (c .before .before .before .accept .ensures .0) _ (c .before .r .given .1))
 
-kits-of-requires : tie.Need-kits-of-requires
-kits-of-requires c κs =
-    let ok = request-proper c in
-    omega (arith, kits-length (c .before .before .before .before .before .before .before .before .before .before .args .file .now), passed-choices (ok .passed))
-
 least-passing-requires : tie.Need-least-passing-requires
 least-passing-requires c κs =
-    let ok = request-proper (c .before .before) in
-    let scales = request-scale (c .before .before) in
-    (ok .percents, omega (arith, scales, passed-scale (ok .passed)))
+    let ok = request-proper c in
+    (ok .percents, omega (arith, request-scale c, passed-scale (ok .passed)))
+
+limits-of-requires : tie.Need-limits-of-requires
+limits-of-requires c κs =
+    let ok = request-proper (c .before) in
+    omega (arith, kits-length (c .before .before .before .before .before .before .before .before .before .before .before .args .file .now), passed-choices (ok .passed))
 
 explore-requires : tie.Need-explore-requires
 explore-requires c κs =
-    let ok = request-proper (c .before .before .before .before .before .before .before .before) in
-    let passing = least (c .before .before .before .before .before) in (
+    let ok = request-proper (c .before .before .before .before .before .before .before) in
+    let limits = c .before .before .before .before .before in (
       ok .passed,
       (
         (ok .long, ok .legal),
-        ((ok .budgets, (_, passing)), (decoded-read _ _ _ (ok .read) (c .before .before .before .before .before .before .before .before .before .before .before .accept .ensures .1), (refl, refl))),
+        (
+          (rw (limits .limits-of .ensures .1) (ok .budgets), (_, least limits)),
+          (decoded-read _ _ _ (ok .read) (c .before .before .before .before .before .before .before .before .before .before .accept .ensures .1), (refl, refl)),
+        ),
       ),
     )
 
@@ -88,27 +90,28 @@ array-read-if1 c = search needs
 
 returns-2 : tie.Need-returns-2
 returns-2 c =
-    let a = c .before .before .before .before .before .before .before .before .before .before .before .before .before .before .before .before .before .before .before .before .args in
-    search-32 (a .file .now) (a .plan .now) (a .out .now) (a .budget) (a .percent) (numbers (c .before .before .before .before .before .before .before .before .before .before .before .t .given .0 .0)) (request-answered (c .before .before .before .before .before .before .before .before .before .before)) (explored (c .before)) (c .if1 .taken) refl refl
+    let a = c .before .before .before .before .before .before .before .before .before .before .before .before .before .before .before .before .before .before .before .args in
+    search-32 (a .file .now) (a .plan .now) (a .out .now) (a .budget) (a .percent) (numbers (c .before .before .before .before .before .before .before .before .before .before .t .given .0 .0)) (request-answered (c .before .before .before .before .before .before .before .before .before)) (explored (c .before)) (c .if1 .taken) refl refl
 
 write-requires : tie.Need-write-requires
 write-requires c κs =
-    let ok = request-proper (c .before .before .before .before .before .before .before .before .before .before .before .before) in
-    (held-long _ _ (c .before .before .before .before .before .before .before .before .before .before .before .before .before .before .before .before .before .before .before .before .before .before .args .out .now) _ _ _ (request-answered (c .before .before .before .before .before .before .before .before .before .before .before .before)) (explored (c .before .before .before)) (c .before .before .if1 .left), omega (arith, ok .sized, passed-choices (ok .passed)))
+    let told = c .before .before .before .before .before .before .before .before .before .before .before in
+    let ok = request-proper told in
+    (held-long _ _ (c .before .before .before .before .before .before .before .before .before .before .before .before .before .before .before .before .before .before .before .before .before .args .out .now) _ _ _ (request-answered told) (explored (c .before .before .before)) (c .before .before .if1 .left), omega (arith, ok .sized, passed-choices (ok .passed)))
 
-array-read-t24 : tie.Need-array-read-t24
-array-read-t24 c = search needs
+array-read-t21 : tie.Need-array-read-t21
+array-read-t21 c = search needs
 
-array-read-t41 : tie.Need-array-read-t41
-array-read-t41 c = search needs
+array-read-t39 : tie.Need-array-read-t39
+array-read-t39 c = search needs
 
 same-length : tie.Need-same-length
 same-length c = search needs
 
 returns-3 : tie.Need-returns-3
 returns-3 c =
-    let a = c .before .before .before .before .before .before .before .before .before .before .before .before .before .before .before .before .before .before .before .before .before .before .before .before .before .args in
-    search-found (a .file .now) (a .plan .now) (a .out .now) (a .budget) (a .percent) (numbers (c .before .before .before .before .before .before .before .before .before .before .before .before .before .before .before .before .t .given .0 .0)) (request-answered (c .before .before .before .before .before .before .before .before .before .before .before .before .before .before .before)) (explored (c .before .before .before .before .before .before)) (c .before .before .before .before .before .if1 .left) (c .before .before .write .ensures) refl refl
+    let a = c .before .before .before .before .before .before .before .before .before .before .before .before .before .before .before .before .before .before .before .before .before .before .before .before .args in
+    search-found (a .file .now) (a .plan .now) (a .out .now) (a .budget) (a .percent) (numbers (c .before .before .before .before .before .before .before .before .before .before .before .before .before .before .before .t .given .0 .0)) (request-answered (c .before .before .before .before .before .before .before .before .before .before .before .before .before .before)) (explored (c .before .before .before .before .before .before)) (c .before .before .before .before .before .if1 .left) (c .before .before .write .ensures) refl refl
 
 pub search-spec : {M : Type 1} → statement M
 search-spec =
@@ -118,13 +121,13 @@ search-spec =
     enum-known-t
     enum-known-r
     returns
-    kits-of-requires
     least-passing-requires
+    limits-of-requires
     explore-requires
     array-read-if1
     returns-2
     write-requires
-    array-read-t24
-    array-read-t41
+    array-read-t21
+    array-read-t39
     same-length
     returns-3)

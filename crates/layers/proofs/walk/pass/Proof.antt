@@ -24,63 +24,49 @@ abbrev μ-loop : tie.MeasureT-loop
 abbrev layers : tie.Start Inv-loop μ-loop → Layers
 layers c = record { starts = c .args .starts .now; sources = c .args .sources .now; arcs = c .args .arcs .now }
 
--- the first rank is small
-first : (c : tie.Start Inv-loop μ-loop) → c .args .from ≤ 254
-first c = omega (arith, c .pre .0, c .pre .2 .2, c .pre .2 .1 .few)
-
-mul-index : tie.Need-mul-index Inv-loop μ-loop
-mul-index c = omega (arith, first c)
-
-element-copy-out-index : tie.Need-element-copy-out-index Inv-loop μ-loop
-element-copy-out-index c = omega (arith, first c)
-
-index-requires : tie.Need-index-requires Inv-loop μ-loop
-index-requires c κs = tt
+start-of-requires : tie.Need-start-of-requires Inv-loop μ-loop
+start-of-requires c κs =
+    let pre = c .pre in
+    omega (arith, pre .0, pre .2 .2, pre .2 .1 .few)
 
 loop-holds : tie.Need-loop-holds Inv-loop μ-loop
 loop-holds c =
-    let start = c .before .before in
-    (le-refl _, start .pre .0, start .pre .1, pass-none (layers start) _ _, c .index .ensures)
+    let start = c .before in
+    (le-refl _, start .pre .0, start .pre .1, pass-none (layers start) _ _, c .start-of .ensures)
 
 -- the rank of a turn is that of a node
-rank : (c : tie.In-loop Inv-loop μ-loop) → c .before .loop .i < c .before .before .before .before .pre .2 .0
+rank : (c : tie.In-loop Inv-loop μ-loop) → c .before .loop .i < c .before .before .before .pre .2 .0
 rank c =
-    let end = c .before .before .before .before .pre .2 .2 in
+    let end = c .before .before .before .pre .2 .2 in
     omega arith
 
 -- and so it is small
 small : (c : tie.In-loop Inv-loop μ-loop) → c .before .loop .i < 254
 small c =
-    let few = c .before .before .before .before .pre .2 .1 .few in
+    let few = c .before .before .before .pre .2 .1 .few in
     omega (arith, rank c)
 
-add-index : tie.Need-add-index Inv-loop μ-loop
-add-index c = omega (arith, small c)
+add-start-of : tie.Need-add-start-of Inv-loop μ-loop
+add-start-of c = omega (arith, small c)
 
-mul-index-2 : tie.Need-mul-index-2 Inv-loop μ-loop
-mul-index-2 c = omega (arith, small c)
-
-element-copy-out-index-2 : tie.Need-element-copy-out-index-2 Inv-loop μ-loop
-element-copy-out-index-2 c = omega (arith, small c)
-
-index-requires-2 : tie.Need-index-requires-2 Inv-loop μ-loop
-index-requires-2 c κs = tt
+start-of-requires-2 : tie.Need-start-of-requires-2 Inv-loop μ-loop
+start-of-requires-2 c κs = omega (arith, small c)
 
 flow-requires : tie.Need-flow-requires Inv-loop μ-loop
 flow-requires c κs =
-    let turn = c .before .before .before in
+    let turn = c .before .before in
     let inv = turn .before .loop .inv in
-    let start = turn .before .before .before .before in
-    node-ready (layers start) _ (start .pre .2 .1) (rank turn) (inv .4) (c .before .index2 .ensures)
+    let start = turn .before .before .before in
+    node-ready (layers start) _ (start .pre .2 .1) (rank turn) (inv .4) (c .before .start-of2 .ensures)
     (pass-fits (layers start) _ _ (inv .0) (turn .loop-test .taken) (start .pre .2 .3) (inv .3))
 
 put-both-requires : tie.Need-put-both-requires Inv-loop μ-loop
 put-both-requires c κs =
-    let turn = c .before .before .before .before .before in
+    let turn = c .before .before .before .before in
     (small turn, turn .before .loop .inv .2)
 
 add-i : tie.Need-add-i Inv-loop μ-loop
-add-i c = omega (arith, small (c .before .before .before .before .before .before))
+add-i c = omega (arith, small (c .before .before .before .before .before))
 
 loop-less : tie.Need-loop-less Inv-loop μ-loop
 loop-less c = omega arith
@@ -88,10 +74,10 @@ loop-less c = omega arith
 loop-again : tie.Need-loop-again Inv-loop μ-loop
 loop-again c =
     let ended = c .before .before .before .before in
-    let turn = ended .before .before in
+    let turn = ended .before in
     let inv = turn .before .loop .inv in
-    let start = turn .before .before .before .before in
-    let next = ended .index2 .ensures in
+    let start = turn .before .before .before in
+    let next = ended .start-of2 .ensures in
     let flow = node-flow (layers start) _ (start .pre .2 .1) (rank turn) (inv .4) next (c .before .before .flow .ensures) in (
       omega arith,
       omega arith,
@@ -103,7 +89,7 @@ loop-again c =
 returns : tie.Need-returns Inv-loop μ-loop
 returns c =
     let inv = c .before .loop .inv in
-    pass-all (layers (c .before .before .before .before)) _ _ (inv .1) (omega arith) (inv .3)
+    pass-all (layers (c .before .before .before)) _ _ (inv .1) (omega arith) (inv .3)
 
 pub pass-spec : {M : Type 1} → statement M
 pass-spec =
@@ -111,14 +97,10 @@ pass-spec =
     (tie.spec
     Inv-loop
     μ-loop
-    mul-index
-    element-copy-out-index
-    index-requires
+    start-of-requires
     loop-holds
-    add-index
-    mul-index-2
-    element-copy-out-index-2
-    index-requires-2
+    add-start-of
+    start-of-requires-2
     flow-requires
     put-both-requires
     add-i

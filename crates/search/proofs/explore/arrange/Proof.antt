@@ -38,9 +38,6 @@ variable-count-requires c κs = search needs
 variables : (c : tie.After-variable-count) → c .variable-count .result ≡ length (tableOf (c .before .before .before .args .file .now) .variables)
 variables c = c .variable-count .ensures .0 ∙ sym (variables-length _)
 
-cast-v : tie.Need-cast-v
-cast-v c = search needs
-
 order-records-requires : tie.Need-order-records-requires
 order-records-requires c κs =
     let v = variables (c .before .before) in
@@ -101,7 +98,6 @@ arrange-spec =
     tie.close
     (tie.spec
     variable-count-requires
-    cast-v
     order-records-requires
     lay-arcs-requires
     evaluate-requires

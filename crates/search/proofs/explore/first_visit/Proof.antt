@@ -52,8 +52,8 @@ ready c =
 
 line-ranks-requires : tie.Need-line-ranks-requires
 line-ranks-requires c κs =
-    let start = c .before .before .before .before .before .before .before .before .before .before in
-    let r = ready (c .before .before .before .before) in
+    let start = c .before .before .before .before .before .before .before .before .before .before .before .before in
+    let r = ready (c .before .before .before .before .before .before) in
     (r .listed .0, refl, first-few (start .pre .0) (start .pre .1 .0 .0) r)
 
 array-write-cells : tie.Need-array-write-cells
@@ -68,33 +68,38 @@ element-write-tally-2 c = search needs
 element-write-tally-3 : tie.Need-element-write-tally-3
 element-write-tally-3 c = search needs
 
+cast-room-of : tie.Need-cast-room-of
+cast-room-of c = search needs
+
 cost-of-requires : tie.Need-cost-of-requires
 cost-of-requires c κs =
-    let start = c .before .before .before .before .before .before .before .before .before .before .before .before .before .before .before .before .before in
+    let start = c .before .before .before .before .before .before .before .before .before .before .before .before .before .before .before .before .before .before .before .before .before in
     omega (arith, start .pre .1 .0 .0, passed-choices (start .pre .0))
 
 room-of-requires : tie.Need-room-of-requires
-room-of-requires c κs = c .before .before .before .before .before .before .before .before .before .before .before .before .before .before .before .before .before .before .pre .1 .1 .0 .0
+room-of-requires c κs = c .before .before .before .before .before .before .before .before .before .before .before .before .before .before .before .before .before .before .before .before .before .before .pre .1 .1 .0 .0
 
 visit-requires : tie.Need-visit-requires
 visit-requires c κs =
-    let start = c .before .before .before .before .before .before .before .before .before .before .before .before .before .before .before .before .before .before .before in
+    let start = c .before .before .before .before .before .before .before .before .before .before .before .before .before .before .before .before .before .before .before .before .before .before .before in
     let passed = start .pre .0 in
-    let r = ready (c .before .before .before .before .before .before .before .before .before .before .before .before .before) in
+    let limits = start .args .limits in
+    let r = ready (c .before .before .before .before .before .before .before .before .before .before .before .before .before .before .before .before .before) in
     let sizes = start .pre .1 .1 .1 .0 in
-    let held = nothing-held (priced _ (tableOf (start .args .file .now))) (start .args .budget) (start .args .least) (start .args .best .now) (start .args .tally .now) (sizes .1) refl refl refl refl in
+    let held = nothing-held (priced _ (tableOf (start .args .file .now))) (limits .budget) (limits .least) (start .args .best .now) (start .args .tally .now) (sizes .1) refl refl refl refl in
     let passing = start .pre .1 .1 .0 .1 in
-    let visitable = first-visitable passed (start .pre .1 .0 .0) r (start .pre .1 .1 .1 .1 .1) (c .before .before .before .before .before .before .before .before .line-ranks .ensures) refl refl (c .room-of .ensures ∙ rw (c .before .cost-of .ensures) refl) (passing .1) (held .0) in
+    let visitable = first-visitable passed (start .pre .1 .0 .0) r (start .pre .1 .1 .1 .1 .1) (c .before .before .before .before .before .before .before .before .before .before .line-ranks .ensures) refl refl (c .room-of .ensures ∙ rw (c .before .cost-of .ensures) refl) (passing .1) (held .0) in
     ((refl, r .handed .2, sizes .0, held .1), ((firstScene _ _ _ _ (passing .0) _ _, visitable), first-room passed (start .pre .1 .0 .0) r (held .2)))
 
 returns : tie.Need-returns
 returns c percent passing =
-    let start = c .before .before .before .before .before .before .before .before .before .before .before .before .before .before .before .before .before .before .before .before in
+    let start = c .before .before .before .before .before .before .before .before .before .before .before .before .before .before .before .before .before .before .before .before .before .before .before .before in
     let passed = start .pre .0 in
-    let r = ready (c .before .before .before .before .before .before .before .before .before .before .before .before .before .before) in
+    let limits = start .args .limits in
+    let r = ready (c .before .before .before .before .before .before .before .before .before .before .before .before .before .before .before .before .before .before) in
     let sizes = start .pre .1 .1 .1 .0 in
-    let held = nothing-held (priced _ (tableOf (start .args .file .now))) (start .args .budget) (start .args .least) (start .args .best .now) (start .args .tally .now) (sizes .1) refl refl refl refl in
-    let visitable = first-visitable passed (start .pre .1 .0 .0) r (start .pre .1 .1 .1 .1 .1) (c .before .before .before .before .before .before .before .before .before .line-ranks .ensures) refl refl (c .before .room-of .ensures ∙ rw (c .before .before .cost-of .ensures) refl) passing (held .0) in
+    let held = nothing-held (priced _ (tableOf (start .args .file .now))) (limits .budget) (limits .least) (start .args .best .now) (start .args .tally .now) (sizes .1) refl refl refl refl in
+    let visitable = first-visitable passed (start .pre .1 .0 .0) r (start .pre .1 .1 .1 .1 .1) (c .before .before .before .before .before .before .before .before .before .before .before .line-ranks .ensures) refl refl (c .before .room-of .ensures ∙ rw (c .before .before .cost-of .ensures) refl) passing (held .0) in
     first-explored passed _ (held .2) (c .visit .ensures _ visitable)
 
 pub first-visit-spec : {M : Type 1} → statement M
@@ -109,6 +114,7 @@ first-visit-spec =
     element-write-tally
     element-write-tally-2
     element-write-tally-3
+    cast-room-of
     cost-of-requires
     room-of-requires
     visit-requires

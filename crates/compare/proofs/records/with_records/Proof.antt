@@ -1,14 +1,14 @@
 -- `with_records` is safe and ends. Assumes nothing.
 use Prim.Native.Nat.{_-_}
 use native.Mathlib.Omega.{arith}
-use Rattle.compare.proofs.tables.with_records.Statement.{statement}
-use Rattle.compare.proofs.tables.with_records.Tie as tie
+use Rattle.compare.proofs.records.with_records.Statement.{statement}
+use Rattle.compare.proofs.records.with_records.Tie as tie
 
 abbrev Inv-loop : tie.InvT-loop
-Inv-loop seed n now₀ k₀ now k = Unit {0}
+Inv-loop seed kind n now₀ k₀ now k = Unit {0}
 
 abbrev μ-loop : tie.MeasureT-loop
-μ-loop seed n now₀ k₀ now k = n - k
+μ-loop seed kind n now₀ k₀ now k = n - k
 
 records-requires : tie.Need-records-requires Inv-loop μ-loop
 records-requires c κs = tt
@@ -16,11 +16,11 @@ records-requires c κs = tt
 loop-holds : tie.Need-loop-holds Inv-loop μ-loop
 loop-holds c = tt
 
+record-of-requires : tie.Need-record-of-requires Inv-loop μ-loop
+record-of-requires c κs = tt
+
 plus-requires : tie.Need-plus-requires Inv-loop μ-loop
 plus-requires c κs = tt
-
-record-requires : tie.Need-record-requires Inv-loop μ-loop
-record-requires c κs = tt
 
 at-node-requires : tie.Need-at-node-requires Inv-loop μ-loop
 at-node-requires c κs = tt
@@ -48,8 +48,8 @@ with-records-spec =
     μ-loop
     records-requires
     loop-holds
+    record-of-requires
     plus-requires
-    record-requires
     at-node-requires
     with-word-requires
     add-k
