@@ -27,6 +27,7 @@ fn made(r: &mut Random) -> Request {
         _ => tables::small(r, true),
     };
     let draft = if r.one_in(2) { draft } else { draft.with_kits(r) };
+    let draft = if r.one_in(2) { draft } else { draft.with_roots(r) };
     let own = draft.kits();
     let choices = own.len();
     let (few, many) = (choices <= 7, r.one_in(200));

@@ -38,10 +38,12 @@ pub enum Variable {
     Chance(u64, u64),
 }
 
-/// A table in the making: variables by position, records by number as position, hi and lo.
+/// A table in the making: variables by position, records by number as position, hi and lo, and root words as reward and
+/// node.
 pub struct Draft {
     pub variables: Vec<Variable>,
     pub records: Vec<(usize, usize, usize)>,
+    pub roots: Vec<(usize, usize)>,
 }
 
 fn word(kind: usize, p: usize, q: usize, r: usize) -> u32 {
@@ -50,13 +52,14 @@ fn word(kind: usize, p: usize, q: usize, r: usize) -> u32 {
 
 impl Draft {
     pub fn file(&self) -> Vec<u8> {
-        let heading = word(1, self.variables.len(), self.records.len(), 0);
+        let heading = word(1, self.variables.len(), self.records.len(), self.roots.len());
         let variables = self.variables.iter().enumerate().map(|(i, v)| match *v {
             Variable::Choice(kits) => word(2, i, 0, kits as usize - 1),
             Variable::Chance(a, b) => word(3, i, a as usize, b as usize),
         });
         let records = self.records.iter().map(|&(p, high, low)| word(4, p, high, low));
-        std::iter::once(heading).chain(variables).chain(records).flat_map(|w| w.to_be_bytes()).collect()
+        let roots = self.roots.iter().map(|&(reward, node)| word(6, 0, reward, node));
+        std::iter::once(heading).chain(variables).chain(records).chain(roots).flat_map(|w| w.to_be_bytes()).collect()
     }
 
     /// The kits of each line.
@@ -83,10 +86,55 @@ impl Draft {
         self
     }
 
-    /// How many records the root leads to.
+    /// The table with root words, mostly few: of small rewards or any, or of as much as B leaves or one more, with more
+    /// events where that is too much; now and then one is wrong, or one too many.
+    pub fn with_roots(mut self, r: &mut Random) -> Draft {
+        let n = self.records.len();
+        if n == 0 {
+            return self;
+        }
+        let node = |r: &mut Random| if r.one_in(4) { n + 1 } else { r.between(2, n as u64 + 1) as usize };
+        if r.one_in(4) {
+            let mut fits = self.variables.iter().fold(1 << 56, |fits, v| match *v {
+                Variable::Chance(_, b) => fits / b,
+                _ => fits,
+            });
+            while fits > 1024 && self.variables.len() < 60 {
+                let b = r.between(2, 1000.min(fits));
+                self.variables.push(Variable::Chance(r.between(0, b), b));
+                fits /= b;
+            }
+            let total = (fits + r.below(2)).clamp(1, 1024) as usize;
+            self.roots = (0..total).step_by(64).map(|i| (64.min(total - i), node(r))).collect();
+        } else {
+            let count = if r.one_in(6) { r.between(1, 17) } else { r.between(1, 4) };
+            let most = [1, 4, 64][r.below(3) as usize];
+            self.roots = (0..count).map(|_| (r.between(1, most) as usize, node(r))).collect();
+        }
+        if r.one_in(16) {
+            let i = r.below(self.roots.len() as u64) as usize;
+            match r.below(4) {
+                0 => self.roots[i].0 = [0, 65, 128, 2047][r.below(4) as usize],
+                1 => self.roots[i].1 = r.below(2) as usize,
+                2 => self.roots[i].1 = n + 2,
+                _ => self.roots[i].1 = 2047,
+            }
+        }
+        self
+    }
+
+    /// The table with so many root words, spread over its records from the last one on, with rewards from 1 to 16.
+    pub fn with_spread_roots(mut self, count: usize) -> Draft {
+        let n = self.records.len();
+        self.roots = (0..count).map(|i| (1 + 5 * i % 16, n + 1 - i * n / count)).collect();
+        self
+    }
+
+    /// How many records the roots lead to.
     pub fn reached(&self) -> usize {
         let mut reached = vec![false; self.records.len() + 2];
-        reached[self.records.len() + 1] = true;
+        reached[self.records.len() + 1] = self.roots.is_empty();
+        self.roots.iter().for_each(|&(_, node)| reached[node] = true);
         for (k, &(_, high, low)) in self.records.iter().enumerate().rev() {
             if reached[k + 2] {
                 reached[high] = true;
@@ -110,7 +158,7 @@ pub fn small(r: &mut Random, monotone: bool) -> Draft {
         Variable::Chance(r.between(0, b), b)
     };
     let variables = (0..v).map(|_| if r.one_in(2) { Variable::Choice(1) } else { share(r) }).collect();
-    let mut draft = Draft { variables, records: Vec::new() };
+    let mut draft = Draft { variables, records: Vec::new(), roots: Vec::new() };
     let mut truths = vec![0u128, u128::MAX];
     let n = if r.one_in(6) { r.between(1, 60) } else { r.between(1, 14) };
     for k in 0..n {
@@ -149,7 +197,7 @@ pub fn limits(r: &mut Random) -> Draft {
     for _ in 0..choices {
         variables[r.below(v as u64) as usize] = Variable::Choice(1);
     }
-    let mut draft = Draft { variables, records: Vec::new() };
+    let mut draft = Draft { variables, records: Vec::new(), roots: Vec::new() };
     let n = r.between(200, 255) as usize;
     for k in 0..n {
         let p = v - 1 - k * v / n;
@@ -178,7 +226,7 @@ pub fn damaged(r: &mut Random, mut file: Vec<u8>) -> Vec<u8> {
         2 => file.truncate(r.below(n + 1) as usize),
         3 => file.truncate(4 * r.below(n / 4 + 1) as usize),
         4 => file.extend((0..r.between(1, 8)).map(|x| x as u8)),
-        5 => file = (0..r.below(1300)).map(|_| r.next() as u8).collect(),
+        5 => file = (0..r.below(1364)).map(|_| r.next() as u8).collect(),
         6 => {
             // another number in a field of a word
             let at = 4 * r.below(n / 4) as usize;
@@ -213,7 +261,7 @@ pub fn damaged(r: &mut Random, mut file: Vec<u8>) -> Vec<u8> {
 pub fn threshold(lines: usize, needed: usize, a: u64, b: u64) -> Draft {
     let variables =
         (0..2 * lines).map(|p| if p % 2 == 0 { Variable::Choice(1) } else { Variable::Chance(a, b) }).collect();
-    let mut draft = Draft { variables, records: Vec::new() };
+    let mut draft = Draft { variables, records: Vec::new(), roots: Vec::new() };
     // the nodes by count, of the line below
     let mut below: Vec<usize> = (0..=lines).map(|count| (count >= needed) as usize).collect();
     for i in (0..lines).rev() {
@@ -250,7 +298,7 @@ pub fn layered(r: &mut Random) -> Draft {
             variables.swap(p, p - 1);
         }
     }
-    let mut draft = Draft { variables, records: Vec::new() };
+    let mut draft = Draft { variables, records: Vec::new(), roots: Vec::new() };
     let mut chain = vec![0, 1];
     for p in (0..2 * lines).rev() {
         let (wide, last) = (width.min(p as u64 + 1), chain.len() as u64 - 1);

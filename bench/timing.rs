@@ -8,7 +8,7 @@ use crate::tables::{self, Draft, Random};
 
 const OPEN: [u8; 20] = [0; 20];
 
-/// A table with 20 choices, to be searched from the fully open plan.
+/// A table with 20 choices and some root words or none, to be searched from the fully open plan.
 struct Job {
     name: &'static str,
     draft: Draft,
@@ -25,15 +25,16 @@ fn about(visits: u64, wanted: u64) -> bool {
     (wanted * 8..=wanted * 12).contains(&(visits * 10))
 }
 
-fn threshold(needed: usize, kits: u32) -> Job {
-    let draft = tables::threshold(20, needed, 3, 5);
+fn threshold(needed: usize, kits: u32, roots: usize) -> Job {
+    let draft = tables::threshold(20, needed, 3, 5).with_spread_roots(roots);
     let visits = visits(&draft.file(), kits);
     Job { name: "threshold", draft, kits, visits }
 }
 
-/// The first made network of which the root leads to 200 records and that is searched in about so many visits.
-fn layered(wanted: u64) -> Job {
-    let mut drafts = (1..).map(|seed| tables::layered(&mut Random::new(seed))).filter(|draft| draft.reached() >= 200);
+/// The first made network of which the roots lead to 200 records and that is searched in about so many visits.
+fn layered(wanted: u64, roots: usize) -> Job {
+    let drafts = (1..).map(|seed| tables::layered(&mut Random::new(seed)).with_spread_roots(roots));
+    let mut drafts = drafts.filter(|draft| draft.reached() >= 200);
     let job = drafts.find_map(|draft| {
         let file = draft.file();
         let (kits, visits) = (3..=20).map(|kits| (kits, visits(&file, kits))).find(|x| about(x.1, wanted))?;
@@ -58,15 +59,22 @@ fn processor_time() -> Duration {
     Duration::new(t.seconds as u64, t.nanoseconds as u32)
 }
 
-/// Nanoseconds of `run(i)` for each i below N: the least of several rounds, in each of which every i has its turn of so
-/// many calls.
-fn times<const N: usize>(rounds: usize, calls: u32, mut run: impl FnMut(usize)) -> [f64; N] {
+/// Nanoseconds of `run` for each program that takes part: the least of several rounds, in each of which every program has
+/// its turn of so many calls.
+fn times<const N: usize>(
+    rounds: usize,
+    calls: u32,
+    programs: &[Program],
+    file: &[u8],
+    mut run: impl FnMut(Program),
+) -> [f64; N] {
     let mut least = [f64::INFINITY; N];
+    let part: Vec<bool> = programs.iter().map(|&program| takes_part(program, file)).collect();
     for _ in 0..rounds {
-        for (i, least) in least.iter_mut().enumerate() {
+        for (i, least) in least.iter_mut().enumerate().filter(|&(i, _)| part[i]) {
             let start = processor_time();
             for _ in 0..calls {
-                run(i);
+                run(programs[i]);
             }
             *least = least.min((processor_time() - start).as_nanos() as f64 / calls as f64);
         }
@@ -132,49 +140,62 @@ fn search(program: Program, file: &[u8], kits: u32) -> (Result<Finding, Refusal>
     (answer, plan)
 }
 
+/// A library from before paper 3 refuses root words, and takes no part in the jobs that have some.
+fn takes_part(program: Program, file: &[u8]) -> bool {
+    program == Program::Library || read(program, file)
+}
+
 fn line(job: &Job) {
     let file = &job.draft.file()[..];
-    let answers: Vec<_> = PROGRAMS.iter().map(|&program| search(program, file, job.kits)).collect();
-    assert!(answers[1..].iter().all(|other| *other == answers[0]), "{answers:?}");
-    assert!(answers[0].0.is_ok_and(|found| found.visits == job.visits));
+    let mut answers = PROGRAMS.iter().filter(|&&program| takes_part(program, file)).map(|&p| search(p, file, job.kits));
+    let first = answers.next().unwrap();
+    assert!(first.0.is_ok_and(|found| found.visits == job.visits));
+    answers.for_each(|other| assert_eq!(first, other));
 
-    let reads: [f64; SWEEPERS.len()] = times(2000, 50, |i| assert!(read(SWEEPERS[i], black_box(file))));
+    let reads: [f64; SWEEPERS.len()] = times(2000, 50, SWEEPERS, file, |p| assert!(read(p, black_box(file))));
     let mut drops = [0; 20];
-    let sweeps: [f64; SWEEPERS.len()] = times(2000, 50, |i| assert!(sweep(SWEEPERS[i], black_box(file), &mut drops)));
+    let sweeps: [f64; SWEEPERS.len()] =
+        times(2000, 50, SWEEPERS, file, |p| assert!(sweep(p, black_box(file), &mut drops)));
     let rounds = (4_000_000 / job.visits as usize).clamp(7, 200);
-    let visit: [f64; PROGRAMS.len()] = times(rounds, 1, |i| {
-        black_box(search(PROGRAMS[i], black_box(file), job.kits)).0.ok();
+    let visit: [f64; PROGRAMS.len()] = times(rounds, 1, PROGRAMS, file, |p| {
+        black_box(search(p, black_box(file), job.kits)).0.ok();
     })
     .map(|x| x / job.visits as f64);
 
-    print!("{:<9} {:>7} {:>4} {:>7}", job.name, job.draft.records.len(), job.kits, job.visits);
+    let (records, roots) = (job.draft.records.len(), job.draft.roots.len());
+    print!("{:<9} {records:>7} {roots:>5} {:>4} {:>7}", job.name, job.kits, job.visits);
     for times in [reads, sweeps] {
         print!(" | {:>7.1}", times[0] / 1e3);
-        for theirs in &times[1..] {
-            print!(" {:>6.1} {:>5.2}", theirs / 1e3, times[0] / theirs);
+        for &theirs in &times[1..] {
+            print!(" {} {}", figure(theirs / 1e3, 6, 1), figure(times[0] / theirs, 5, 2));
         }
     }
     print!(" | {:>7.1}", visit[0]);
-    for theirs in &visit[1..] {
-        print!(" {theirs:>7.1} {:>5.2}", visit[0] / theirs);
+    for &theirs in &visit[1..] {
+        print!(" {} {}", figure(theirs, 7, 1), figure(visit[0] / theirs, 5, 2));
     }
     println!();
+}
+
+/// A number, or a line where a program takes no part.
+fn figure(x: f64, width: usize, digits: usize) -> String {
+    if x.is_finite() && x > 0.0 { format!("{x:>width$.digits$}") } else { format!("{:>width$}", "-") }
 }
 
 /// A line for each job. A ratio is the library's time over the time before it.
 pub fn table() {
     let before = if cfg!(before) { " before ratio" } else { "" };
     let width = 20 + before.len();
-    println!("{:<30} | {:<width$} | {:<width$} | search, ns a visit", "", "read, µs", "sweep, µs");
+    println!("{:<36} | {:<width$} | {:<width$} | search, ns a visit", "", "read, µs", "sweep, µs");
     println!(
-        "job       records kits  visits | library{before}  plain ratio | library{before}  plain ratio | library\
+        "job       records roots kits  visits | library{before}  plain ratio | library{before}  plain ratio | library\
          {} pass up ratio    sent ratio fetched ratio  sweeps ratio",
         if cfg!(before) { "  before ratio" } else { "" }
     );
-    for (needed, kits) in [(10, 3), (10, 5), (8, 9)] {
-        line(&threshold(needed, kits));
+    for (needed, kits, roots) in [(10, 3, 0), (10, 5, 0), (8, 9, 0), (10, 5, 2), (10, 5, 16)] {
+        line(&threshold(needed, kits, roots));
     }
-    for wanted in [10_000, 100_000, 1_000_000] {
-        line(&layered(wanted));
+    for (wanted, roots) in [(10_000, 0), (100_000, 0), (1_000_000, 0), (100_000, 2), (100_000, 16)] {
+        line(&layered(wanted, roots));
     }
 }

@@ -1,7 +1,7 @@
 //! Safe functions over the static library of the crate `export`, whose functions ask nothing of a caller but what slices
 //! and exclusive references are.
 
-/// Why a request is turned away: document 01's number and place.
+/// Why a request is turned away: the number and place of documents 01 and 02.
 #[derive(Clone, Copy, Debug, PartialEq, Eq)]
 pub struct Refusal {
     pub number: u64,

@@ -513,13 +513,13 @@ def on_opened_tables(chosen):
         case(f"opened, {label}", service.upper(), text, answer)
 
 
-def first_refusals(services):
-    """Of each service and number of a refusal the first two cases."""
+def first_refusals(services, number_before={}):
+    """Of each service and number of a refusal the first two cases; some cases go by another number."""
     found = {}
     for c in services:
         number = re.match(r" refused (\d+)", c[3])
         if number:
-            found.setdefault((c[1], number[1]), []).append(c)
+            found.setdefault((c[1], number_before.get(c[0], number[1])), []).append(c)
     return [c for of_one in found.values() for c in of_one[:2]]
 
 
@@ -532,6 +532,8 @@ def answered(services):
 answered_since = [f"word {i} with Q 0 and R 1" for i in (1, 3)] + [f"damaged {i}" for i in (41, 78, 107)]
 answered_since += [f"search, limits, kits {kits}, {percent}" for kits, percent in ((64, 0), (255, 50), (256, 50))]
 refused_before = [f"search, plan 00 and {size} places, kits 21, 100" for size in (0, 1)]
+# Their order stays as it was before paper 3, when R 1 of a heading was refused with 12.
+number_before = {"sweep, 12": "12", "filter, 12, 101": "12"}
 
 services = [c for c in cases if c[1] != "j"]
 printed = [text_of(bytes_of(t)) for t in (A, B)]
@@ -540,7 +542,7 @@ note("Requests of opened tables, of A and B")
 on_opened_tables(c for c in of_both if c[1] in "rsw")
 on_opened_tables([c for c in of_both if c[1] in "fp"][::7])
 note("Requests of opened tables, of each service every refusal")
-on_opened_tables(first_refusals(services))
+on_opened_tables(first_refusals(services, number_before))
 on_opened_tables(c for c in services if c[0] in refused_before)
 note("Requests of opened tables that are answered")
 on_opened_tables([c for c in answered(services) if c[0] not in answered_since][::20])
@@ -792,6 +794,378 @@ for label, make in makers.items():
 
 services = [c for c in cases[before_kits:] if c[1] != "j"]
 note("Requests of opened tables with kits")
+on_opened_tables(first_refusals(services))
+on_opened_tables(answered(services)[::10])
+
+before_roots = len(cases)
+note("Several customers (paper 3), each with a root word. Two of them on table A, rewards 3 and 1, counted by hand")
+
+
+def root(node, reward=1):
+    return word(6, 0, reward, node)
+
+
+def rooted(t, *roots):
+    """A table without root words with these after its records."""
+    return [t[0] + len(roots), *t[1:], *roots]
+
+
+def every_service(label, t, plan, percents, kits):
+    """The file read, the plan with its open lines taken and left scored, swept, filtered and searched, and the program's job. The answers."""
+    start = len(cases)
+    reads(label, t)
+    assert " table " in answers[-1]
+    for mark in (1, 2):
+        scores(f"{label}, {marks_of(plan)} with {mark}", t, [m or mark for m in plan])
+    sweeps(f"{label}, sweep {marks_of(plan)}", t, plan)
+    filters(f"{label}, filter {marks_of(plan)}", t, plan, percents)
+    searches(f"{label}, search {marks_of(plan)}", t, plan, [(k, percent) for k in kits for percent in percents])
+    for k in kits:
+        runs(f"{label}, job, kits {k}", [job_of(k, percents[0])] + t)
+    return [c[3] for c in cases[start:]]
+
+
+def choices_of(t):
+    return sum(1 for w in t[1:1 + fields(t[0])[1]] if w >> 28 == 2)
+
+
+# Table A: node 2 is event 3, node 3 is line 1 and event 3, node 4 is event 1 or node 3, node 5 is (line 0 and node 4) or (not line 0 and node 3).
+# Event 1 holds 1 of 2 times, event 3 6 of 10 times. On the scale 20 a node's score, by the lines taken:
+#     none    node 3: 0,  node 4: 1 * 10 = 10,             node 5: 0
+#     line 0  node 3: 0,  node 4: 10,                      node 5: 10
+#     line 1  node 3: 2 * 6 = 12,  node 4: 10 + 1 * 6 = 16,  node 5: 12
+#     both    node 3: 12, node 4: 16,                      node 5: 16
+# Rewards 3 for node 5 and 1 for node 3, on the scale 20 * 4 = 80: 0, 3 * 10 = 30, 3 * 12 + 12 = 48 and 3 * 16 + 12 = 60. Drops 60 - 48 = 12 and
+# 60 - 30 = 30. At 50 percent, 40 of 80, line 1 is forced; 48 is 60 percent, 60 is 75 percent.
+# Rewards 1 for node 5 and 3 for node 3: 0, 10, 12 + 36 = 48 and 16 + 36 = 52; drops 4 and 42.
+# Rewards 3 for node 4 and 1 for node 5: 30, 30 + 10 = 40, 48 + 12 = 60 and 48 + 16 = 64; drops 4 and 24.
+customers = {
+    "3 for node 5 and 1 for node 3": (rooted(A, root(5, 3), root(3, 1)), (0, 30, 48, 60), (12, 30)),
+    "1 for node 5 and 3 for node 3": (rooted(A, root(5, 1), root(3, 3)), (0, 10, 48, 52), (4, 42)),
+    "3 for node 4 and 1 for node 5": (rooted(A, root(4, 3), root(5, 1)), (30, 40, 60, 64), (4, 24)),
+}
+percents = (0, 30, 37, 38, 50, 51, 60, 61, 75, 76, 80, 81, 100)
+for label, (t, by_hand, drops) in customers.items():
+    reads(label, t)
+    assert answers[-1].endswith(" table 4 4 2 80")
+    for plan, x in zip(([2, 2], [1, 2], [2, 1], [1, 1]), by_hand):
+        scores(f"{label}, {marks_of(plan)}", t, plan)
+        assert answers[-1].endswith(f" score {x}")
+    for i in (0, 1, 2):
+        for j in (0, 1, 2):
+            sweeps(f"{label}, sweep {i} {j}", t, [i, j])
+            assert i + j or answers[-1].endswith(f" top {by_hand[3]}, drops {drops[0]} {drops[1]}")
+            filters(f"{label}, filter {i} {j}", t, [i, j], range(0, 101) if i + j == 0 else (0, 37, 38, 50, 60, 61, 75, 76, 100))
+            searches(f"{label}, search {i} {j}", t, [i, j], [(kits, percent) for kits in (0, 1, 2) for percent in percents[::1 if i + j == 0 else 3]])
+    for kits in (0, 1, 2):
+        for percent in (0, 50, 60, 61, 75, 76, 101):
+            runs(f"{label}, job, kits {kits}, {percent}", [job_of(kits, percent)] + t)
+    runs(f"{label}, job, kits 10021", [job_of(10021, 100)] + t)
+
+note("The last record with reward 1, as without root words. And every node of a table as the root, alone and beside the last record")
+lines_of_two = table([choice(0), chance(1, 1, 3), choice(2), chance(3, 2, 5), choice(4), chance(5, 3, 4)],
+                     [record(5, 1, 0), record(4, 2, 0), record(3, 1, 2), record(3, 2, 3), record(2, 4, 5), record(1, 6, 3), record(0, 6, 7)])
+networks = {"A": A, "B": B, "lines of two": lines_of_two, "any line": any_line, "two lines of three": two_lines, "no line matters": idle,
+            "chances, shared nodes": table(chances, shared), "chances, equal records": table(chances, equal),
+            "chances, unreachable records": table(chances, unreachable)}
+for label, t in networks.items():
+    n, v = fields(t[0])[2], choices_of(t)
+    without = every_service(f"{label}, without root words", t, [0] * v, (50, 0, 100), (1, v))
+    assert without == every_service(f"{label}, the last record", rooted(t, root(n + 1)), [0] * v, (50, 0, 100), (1, v))
+    for k in range(2, n + 2):
+        given = rooted(t, root(k, 2))
+        reads(f"{label}, node {k}", given)
+        sweeps(f"{label}, node {k}", given, [0] * v)
+        searches(f"{label}, node {k}", given, [0] * v, [(v, 0), (1, 40)])
+        every_service(f"{label}, the last record and node {k}", rooted(t, root(n + 1, 2), root(k, 5)), [0] * v, (40, 70), (1, v))
+    every_service(f"{label}, all nodes", rooted(t, *(root(k, k) for k in range(2, n + 2))), [0] * v, (40, 0, 70), (1, 2, v))
+
+note("Roots after open lines, at them, before them and above all, with some lines settled")
+places = {"after the lowest open line": [5], "after two lines": [3], "at the lowest line and after it": [8, 4, 2], "after all lines": [2],
+          "above all": [8], "above all, twice, and after all": [8, 8, 2], "between lines": [6, 5, 4], "at each position": [2, 3, 4, 5, 6, 7, 8]}
+for label, nodes in places.items():
+    t = rooted(lines_of_two, *(root(k, 1 + k % 3) for k in nodes))
+    for plan in ([0, 0, 0], [1, 0, 0], [2, 0, 0], [0, 1, 0], [0, 2, 0], [0, 0, 2], [0, 1, 2], [2, 2, 0], [1, 2, 1], [2, 2, 2]):
+        sweeps(f"roots {label}, sweep {marks_of(plan)}", t, plan)
+        assert " top " in answers[-1]
+        filters(f"roots {label}, filter {marks_of(plan)}", t, plan, (0, 25, 40, 60, 75))
+        searches(f"roots {label}, search {marks_of(plan)}", t, plan, [(kits, percent) for kits in (0, 1, 2, 3) for percent in (0, 40)])
+
+note("A node named twice counts twice, as one word of the rewards together, and the words' order does not matter")
+for alike_words in (
+    {"twice": [root(5), root(5)], "twice, as one": [root(5, 2)]},
+    {"3 and 61": [root(3, 3), root(3, 61)], "3 and 61, as one": [root(3, 64)]},
+    {"twice, with another": [root(5, 2), root(3, 4), root(5, 7)], "twice, with another, as two": [root(5, 9), root(3, 4)],
+     "twice, with another, in another order": [root(3, 4), root(5, 7), root(5, 2)], "twice, with another, falling": [root(5, 7), root(5, 2), root(3, 4)]},
+    {"four in order": [root(2, 5), root(3, 1), root(4, 2), root(5, 3)], "four in another": [root(4, 2), root(5, 3), root(2, 5), root(3, 1)]},
+):
+    same = [every_service(label, rooted(A, *roots), [0, 0], (50, 0, 60, 75, 90, 100), (0, 1, 2)) for label, roots in alike_words.items()]
+    assert all(x == same[0] for x in same)
+
+note("16 root words")
+for label, roots in (
+    ("one node, reward 64", [root(5, 64)] * 16), ("one node, reward 1", [root(5)] * 16), ("one node in the middle, reward 64", [root(3, 64)] * 16),
+    ("every node four times", [root(2 + i % 4, 1 + i) for i in range(16)]), ("rewards 64 and 1", [root(2 + i // 4, 64 if i % 2 else 1) for i in range(16)]),
+    ("the last one another", [root(3, 5)] * 15 + [root(5, 64)]), ("15", [root(2 + i % 4, 64 - i) for i in range(15)]),
+):
+    every_service(f"16 root words, {label}", rooted(A, *roots), [0, 0], (50, 0, 60, 80, 81), (0, 1, 2))
+pairs_of_nodes = [record(7, 1, 0), record(7, 1, 1)]
+for p in range(6, -1, -1):
+    # of two nodes at each position the first implies the second
+    x, y = len(pairs_of_nodes), len(pairs_of_nodes) + 1
+    pairs_of_nodes += [record(p, y, x), record(p, y, y)] if p % 2 else [record(p, x, 0), record(p, y, x)]
+rows = table([choice(i) if i % 2 else chance(i, 1 + i % 3, 4) for i in range(8)], pairs_of_nodes)
+every_service("16 roots", rooted(rows, *(root(2 + i, 1 + i * 5 % 7) for i in range(16))), [0] * 4, (50, 0, 20, 80, 100), (0, 1, 2, 4))
+every_service("16 roots, some settled", rooted(rows, *(root(17 - i, 64 - i) for i in range(16))), [1, 0, 2, 0], (50, 0, 20, 80, 100), (1, 2, 4))
+
+note("12, R above 16. 13, a root word missing or too many")
+for n in (17, 18, 31, 32, 33, 63, 64, 255):
+    reads(f"{n} root words", rooted(A, *[root(5)] * n))
+for r in (1, 2, 16, 17, 18, 32, 64, 272, 1024, 1040, 2047):
+    reads(f"R {r}, no root words", [A[0] + r] + A[1:])
+    scores(f"R {r}, no root words, score", [A[0] + r] + A[1:], [1, 2])
+    sweeps(f"R {r}, no root words, sweep", [A[0] + r] + A[1:], [0, 3], 1)
+    filters(f"R {r}, no root words, filter", [A[0] + r] + A[1:], [0, 3], (101,), 1)
+    searches(f"R {r}, no root words, search", [A[0] + r] + A[1:], [0, 3], [(10021, 101)], 1)
+    runs(f"R {r}, no root words, job", [job_of(10021, 101), A[0] + r] + A[1:])
+for r in (0, 1, 2, 3, 15, 16):
+    for n in {0, r - 1, r + 1, 16, 17} - {-1, r}:
+        reads(f"R {r}, {n} root words", [A[0] + r] + A[1:] + [root(5)] * n)
+reads("R 1, and half of a root word", bytes_of(rooted(A, root(5)))[:-2])
+reads("R 1, and a root word and a byte", bytes_of(rooted(A, root(5))) + b"\0")
+reads("a root word for the last record", put(A, 8, root(3)))
+reads("the last record for a root word", [word(1, 4, 3, 1)] + A[1:])
+reads("a root word before the last record", [word(1, 4, 4, 1)] + A[1:8] + [root(3)] + A[8:])
+reads("V one more, no root word", [word(1, 5, 4, 0)] + A[1:] + [root(3)])
+reads("N one more, no root word", [word(1, 4, 5, 0)] + A[1:] + [root(3)])
+reads("N one less and R one more", [word(1, 4, 3, 2)] + A[1:] + [root(3)])
+
+note("26, each way in which a root word can be wrong, as the first and as a later one")
+wrong_roots = {f"kind {k}": word(k, 0, 1, 5) for k in range(16) if k != 6}
+wrong_roots |= {f"P {p}": word(6, p, 1, 5) for p in (1, 2, 5, 32, 63)}
+wrong_roots |= {f"reward {q}": word(6, 0, q, 5) for q in (0, 65, 66, 96, 127, 128, 129, 192, 256, 320, 1024, 1088, 2047)}
+wrong_roots |= {f"node {r}": word(6, 0, 1, r) for r in (0, 1, 6, 7, 63, 255, 256, 257, 258, 261, 512, 1029, 2047)}
+wrong_roots |= {"all zero": 0, "all ones": 0xFFFFFFFF}
+for label, w in wrong_roots.items():
+    reads(f"root word, {label}", rooted(A, w))
+    reads(f"root word, {label}, the first of two", rooted(A, w, root(5, 64)))
+    reads(f"root word, {label}, the second of two", rooted(A, root(2, 64), w))
+    reads(f"root word, {label}, the last of 16", rooted(A, *[root(5)] * 15, w))
+for label in ("kind 4", "P 1", "reward 0", "reward 65", "node 0", "node 1", "node 6"):
+    for name, given in (("first", [wrong_roots[label], root(5)]), ("third", [root(5), root(3, 64), wrong_roots[label]])):
+        t = rooted(A, *given)
+        scores(f"root word, {label}, {name}, score", t, [0, 1])
+        sweeps(f"root word, {label}, {name}, sweep", t, [0, 0, 0])
+        filters(f"root word, {label}, {name}, filter", t, [0, 3], (101,))
+        searches(f"root word, {label}, {name}, search", t, [0, 0], [(10021, 101), (2, 50)], 1)
+        runs(f"root word, {label}, {name}, job", [job_of(10021, 101)] + t)
+for a in ("kind 4", "P 1", "reward 0", "reward 65", "node 1", "node 6"):
+    for b in ("kind 4", "P 1", "reward 0", "reward 65", "node 1", "node 6"):
+        reads(f"root words, {a} and then {b}", rooted(A, root(5), wrong_roots[a], root(4), wrong_roots[b], root(2)))
+for reward in (1, 2, 63, 64):
+    for node in (2, 3, 4, 5):
+        reads(f"root word, reward {reward} and node {node}", rooted(A, root(node, reward)))
+large_n = table([chance(0, 1, 2)], [record(0, 1, 0)] * 254)
+for node in (1, 2, 127, 128, 254, 255, 256, 257, 511):
+    reads(f"254 records, node {node}", rooted(large_n, root(node)))
+reads("one record, node 2", rooted(table([chance(0, 1, 2)], last), root(2, 64)))
+reads("one record, node 3", rooted(table([chance(0, 1, 2)], last), root(3, 64)))
+
+note("27, B times the total reward above 2^56. Exactly 2^56, one step above, and products of more than 64 bits")
+
+
+def events(*scales):
+    """A line and events of such scales, of which the last decides; the line is the root, and every event holds one time less than always."""
+    v = len(scales)
+    return table([choice(0)] + [chance(1 + i, b - 1, b) for i, b in enumerate(scales)], [record(v, 1, 0), record(0, 2, 0)])
+
+
+def rewards(total, node=3):
+    """Root words of a total reward, as few as can be."""
+    return [root(node, min(64, total - i)) for i in range(0, total, 64)]
+
+
+for label, scales, totals in (
+    ("2^56", [256] * 7, (1, 2, 3, 64, 65, 128, 255, 256, 257, 258, 512, 513, 768, 1000, 1023, 1024)),
+    ("2^55", [256] * 6 + [128], (1, 2, 3, 4, 512, 513, 514, 1024)),
+    ("2^50", [32] * 10, (63, 64, 65, 1024)), ("2^48", [256] * 6, (128, 255, 256, 257, 1024)), ("2^47", [256] * 5 + [128], (511, 512, 513, 1024)),
+    ("2^46", [512] * 5 + [2], (1023, 1024)), ("2^46 and 3", [512] * 5 + [3], (682, 683, 1024)), ("10^16", [10] * 16, (7, 8, 1024)),
+    ("10^15", [1000] * 5, (64, 72, 73, 1024)), ("2^56 less 256", [673, 771, 964, 832, 595, 3], (96, 97, 98)),
+    ("2^56 and 19435", [791, 721, 31, 43, 53, 97, 179], (102, 103, 104)), ("1", [1], (1, 2, 64, 1024)), ("7", [7], (1, 64, 1024)),
+):
+    for total in totals:
+        reads(f"B of {label}, total reward {total}", rooted(events(*scales), *rewards(total)))
+most = [("2^46, 16 of 64", rooted(events(*[512] * 5 + [2]), *rewards(1024))), ("2^50, one of 64", rooted(events(*[32] * 10), root(3, 64))),
+        ("2^55, two of 1", rooted(events(*[256] * 6 + [128]), root(3), root(2))), ("2^56, one of 1", rooted(events(*[256] * 7), root(3))),
+        ("2^56 less 256", rooted(events(673, 771, 964, 832, 595, 3), root(3, 64), root(2, 33))),
+        ("certain", rooted([chance(fields(w)[1], 2, 2) if w >> 28 == 3 else w for w in events(*[2] * 46)], *rewards(1024)))]
+for label, t in most:
+    every_service(f"the largest B, {label}", t, [0], (0, 50, 97, 98, 99, 100), (0, 1))
+for label, t in (("2^56 and 2", rooted(events(*[256] * 7), root(3, 2))), ("2^56 and 257", rooted(events(*[256] * 7), *rewards(257))),
+                 ("2^56 and 1024", rooted(events(*[256] * 7), *rewards(1024))), ("2^56 and 19435", rooted(events(791, 721, 31, 43, 53, 97, 179), *rewards(103)))):
+    scores(f"27, {label}, score", t, [0])
+    sweeps(f"27, {label}, sweep", t, [], 3)
+    filters(f"27, {label}, filter", t, [3], (101,))
+    searches(f"27, {label}, search", t, [0], [(10021, 101), (1, 50)], 2)
+    runs(f"27, {label}, job", [job_of(10021, 101)] + t)
+reads("27 of words that name the same node and others", rooted(events(*[256] * 6 + [128]), root(3), root(2), root(3)))
+reads("16 with root words", rooted(events(*[256] * 7 + [2]), root(3)))
+reads("16 with root words, later", rooted(events(2, *[256] * 6, 255, 2), root(3), root(2, 64)))
+reads("16 speaks of the product of b alone", rooted(events(*[256] * 6 + [255]), root(3, 64)))
+
+note("Two faults, with 26 and 27 after 17 and before 18, and 18 before what comes with the file")
+over = [choice(0)] + [chance(i, 1, 256) for i in range(1, 8)]
+right_records, wrong_record = [record(7, 1, 0), record(0, 2, 0)], [record(7, 1, 0), record(0, 3, 0)]
+falling = [record(7, 1, 0), record(0, 2, 1)]
+small, too_large, too_much = [choice(0), chance(1, 1, 2)], over + [chance(8, 1, 2)], [root(3, 64), root(2)]
+small_falling, small_wrong = [record(1, 1, 0), record(0, 2, 1)], [record(1, 1, 0), record(0, 3, 0)]
+for w in ("kind 4", "P 1", "reward 0", "reward 65", "node 0", "node 1", "node 6"):
+    bad_root = wrong_roots[w]
+    for label, t in (
+        ("12 and 26", [word(1, 2, 2, 17)] + rooted(table(small, [record(1, 1, 0), record(0, 2, 0)]), bad_root)[1:]),
+        ("13 and 26", rooted(table(small, [record(1, 1, 0), record(0, 2, 0)]), bad_root) + [bad_root]),
+        ("14 and 26", rooted(table(put(small, 1, word(3, 1, 1, 0)), [record(1, 1, 0), record(0, 2, 0)]), bad_root)),
+        ("15 and 26", rooted(table([choice(i) for i in range(21)], last), bad_root)),
+        ("16 and 26", rooted(table(too_large, right_records), bad_root)),
+        ("17 and 26", rooted(table(small, small_wrong), bad_root)),
+        ("17 in the first record and 26", rooted(table(small, [record(1, 2, 0), record(0, 1, 0)]), bad_root, root(2))),
+        ("26 and 27", rooted(table(over, right_records), bad_root, root(3, 64))),
+        ("26 and 27, in another order", rooted(table(over, right_records), root(3, 64), root(3, 64), bad_root)),
+        ("26 and 18", rooted(table(small, small_falling), bad_root)),
+        ("26 and 18, in another order", rooted(table(small, small_falling), root(3), root(2), bad_root)),
+        ("17, 26 and 18", rooted(table(small, [record(1, 1, 0), record(0, 2, 1), record(0, 5, 0)]), bad_root)),
+        ("26, 27 and 18", rooted(table(over, falling), root(3, 64), bad_root)),
+    ):
+        reads(f"{label}, {w}", t)
+for label, t in (
+    ("16 and 27", rooted(table(too_large, right_records), *too_much)), ("16 and 27 and 18", rooted(table(too_large, falling), *too_much)),
+    ("17 and 27", rooted(table(over, wrong_record), *too_much)), ("17 and 27 and 18", rooted(table(over, falling + [record(0, 9, 0)]), *too_much)),
+    ("27 and 18", rooted(table(over, falling), *too_much)), ("27 and 18, 16 words", rooted(table(over, falling), *[root(3, 64)] * 16)),
+    ("27 and 21", rooted(table(over, right_records), *too_much)), ("18 of a table with root words", rooted(table(small, small_falling), root(2, 64), root(2))),
+    ("18 of a record that no root leads to", rooted(table(small, small_falling), root(2))),
+    ("18 of two records", rooted(table(small, small_falling + [record(0, 0, 1)]), root(4), root(2))),
+    ("15 and 27", rooted(table([choice(i) for i in range(21)] + [chance(21 + i, 1, 256) for i in range(7)], last), *too_much)),
+    ("14 and 27", rooted(table(over + [word(3, 8, 1, 0)], right_records), *too_much)), ("13 and 27", rooted(table(over, right_records), *too_much)[:-1]),
+):
+    reads(label, t)
+    scores(f"{label}, score", t, [0, 3])
+    sweeps(f"{label}, sweep", t, [0, 3], 1)
+    filters(f"{label}, filter", t, [3], (101,), 2)
+    searches(f"{label}, search", t, [0, 0], [(10021, 101)], 0)
+    runs(f"{label}, job", [job_of(10021, 101)] + t)
+pair = customers["3 for node 5 and 1 for node 3"][0]
+for plan, size in (([], 2), ([0], 2), ([0, 0, 0], 2), ([0, 3, 0], 1), ([3, 0], 2), ([0, 3], 2), ([3, 3], 1), ([0, 0], 0), ([0, 0], 1), ([0, 0], 3), ([0, 0], 2)):
+    label = f"root words, plan {marks_of(plan)} and {size} places"
+    scores(f"{label}, score", pair, plan)
+    sweeps(f"{label}, sweep", pair, plan, size)
+    filters(f"{label}, filter", pair, plan, (50, 75, 76, 100, 101), size)
+    searches(f"{label}, search", pair, plan, [(1, 50), (0, 76), (10020, 100), (10021, 100), (10020, 101)], size)
+
+note("Files of 1,264 to 1,324 bytes and more")
+long_roots = [root(2 + i * 16, 1 + i) for i in range(16)]
+for n in range(316, 332):
+    reads(f"{4 * n} bytes, zero words", [0] * n)
+    reads(f"{4 * n} bytes, no root words", (large + [record(0, 1, 0)] * 16)[:n])
+    reads(f"{4 * n} bytes, root words that the heading does not count", (large + long_roots)[:n])
+    reads(f"{4 * n} bytes, V 61", [word(1, 61, n - 62, 0)] + large[1:] + [0] * (n - 315))
+    reads(f"{4 * n} bytes, N {n - 61}", [word(1, 60, n - 61, 0)] + large[1:] + [0] * (n - 315))
+    reads(f"{4 * n} bytes, root words", rooted(large, *long_roots[:n - 315]))
+    reads(f"{4 * n} bytes, the last root word wrong", rooted(large, *long_roots[:n - 316], root(1)))
+    reads(f"{4 * n} bytes, a record for the last root word", rooted(large, *long_roots[:n - 316], record(0, 1, 0)))
+    runs(f"{4 * n + 4} bytes, job, no root words", job + (large + [record(0, 1, 0)] * 16)[:n])
+    runs(f"{4 * n + 4} bytes, job, 18 root words", job + put((large + long_roots)[:n], 0, large[0] + 18))
+for n in (332, 333, 349):
+    reads(f"{4 * n} bytes, zero words", [0] * n)
+    reads(f"{4 * n} bytes, {n - 315} root words", rooted(large, *[root(2)] * (n - 315)))
+    reads(f"{4 * n} bytes, 16 root words", rooted(large, *long_roots) + [root(2)] * (n - 331))
+whole = bytes_of(rooted(large, *long_roots))
+assert len(whole) == 1324
+for n in (1261, 1262, 1263, 1265, 1320, 1321, 1322, 1323, 1324):
+    reads(f"the longest table, {n} bytes", whole[:n])
+for n in (1, 2, 3, 4, 5, 8):
+    reads(f"the longest table and {n} bytes", whole + bytes(n))
+all_open, some_open = [0] * 10, [0, 2, 1, 0, 0, 2, 0, 1, 0, 0]
+for label, t in (("the longest table", rooted(large, *long_roots)), ("the longest table, 16 nodes", rooted(large, *(root(255 - i, 64 - i) for i in range(16))))):
+    for plan in (all_open, some_open):
+        sweeps(f"{label}, sweep {marks_of(plan)}", t, plan)
+        filters(f"{label}, filter {marks_of(plan)}", t, plan, (0, 40, 100))
+    scores(f"{label}, score", t, [1, 2] * 5)
+    searches(f"{label}, search", t, some_open, [(10, 0), (4, 0), (3, 0), (10, 60)])
+    runs(f"{label}, job", job + t)
+note("The program's input of 1,328 bytes, 1,329 bytes and more")
+program = bytes_of(job) + whole
+for n in (1265, 1266, 1268, 1300, 1320, 1324, 1325, 1326, 1327, 1328):
+    runs(f"{n} bytes, job", program[:n])
+for n in (1, 2, 3, 4, 5, 8, 32, 64, 72):
+    runs(f"{1328 + n} bytes, job", program + bytes(n))
+    runs(f"{1328 + n} bytes, job, root words after it", (program + bytes_of(long_roots) + bytes(8))[:1328 + n])
+    runs(f"{1328 + n} bytes, no job word", bytes(1328 + n))
+for r in (1, 9, 15, 16):
+    runs(f"{1264 + 4 * r} bytes, job, {r} root words", job + rooted(large, *long_roots[:r]))
+    runs(f"{1264 + 4 * r} bytes, job, {r} root words, a byte more", bytes_of(job + rooted(large, *long_roots[:r])) + b"\0")
+    runs(f"{1264 + 4 * r} bytes, job, {r} root words, a word more", job + rooted(large, *long_roots[:r]) + [root(2)])
+
+note("The hard table with root words, all of which score the same")
+for r in (1, 8):
+    t = bytes_of(rooted(words_of(hard), *(root(255 - 30 * i) for i in range(r))))
+    case(f"hard, {r} roots, read", "r", text_of(t), f" table 60 254 20 {scale * r}")
+    case(f"hard, {r} roots, score", "s", text_of(t, "12" * 10), f" score {alike * r}")
+    case(f"hard, {r} roots, sweep", "w", text_of(t, "0" * 20, "20"), f" top {alike * r}, drops" + " 0" * 20)
+    case(f"hard, {r} roots, filter, 42", "f", text_of(t, "0" * 20, "20, 42"), " forced 0, plan" + " 0" * 20)
+    case(f"hard, {r} roots, filter, 43", "f", text_of(t, "0" * 20, "20, 43"), " refused 31 0, plan" + " 7" * 20)
+    case(f"hard, {r} roots, search, kits 3", "p", text_of(t, "0" * 20, "20, 42, 3"), f" score {alike * r} visits {uncut([1] * 20, 3)}, plan" + " 2" * 20)
+for label, given in (("9 roots", [root(255 - 20 * i) for i in range(9)]), ("16 roots", [root(255 - i) for i in range(16)])):
+    case(f"hard, {label}, read", "r", text_of(bytes_of(rooted(words_of(hard), *given))), " refused 27 0")
+
+note("Kits and root words, ties of the sum")
+for label, t, kits_of_lines in ties:
+    n, own = fields(t[0])[2], kits_of_lines[0]
+    for name, roots in (("last and first", [root(n + 1, 2), root(2)]), ("all", [root(k) for k in range(2, n + 2)][:16]), ("last but one", [root(n, 3)])):
+        given = with_kits(rooted(t, *roots), own)
+        searches(f"ties, {label}, {name}", given, [0] * len(own), [(kits, percent) for kits in (min(own), max(own), sum(own)) for percent in (0, 50)])
+        runs(f"ties, {label}, {name}", [job_of(max(own), 50)] + given)
+
+
+def roots_drawn(n):
+    """Root words of a table of n records: mostly few, of any nodes or about the last ones, with small rewards or any."""
+    count = rng.choice((1, 2, 2, 3, 3, 4, 5, 8, 16))
+    nearest = rng.choice((n, n, 3))
+    most = rng.choice((1, 3, 10, 64))
+    return [root(n + 1 - rng.randrange(min(n, nearest)), rng.randint(1, most)) for _ in range(count)]
+
+
+def with_roots(make):
+    t, n = right(make)
+    t = rooted(t, *roots_drawn(fields(t[0])[2]))
+    return (with_kits(t, kits_drawn(n)) if rng.random() < 0.3 else t), n
+
+
+note("Made tables with root words")
+for label, make in makers.items():
+    for i in range(60):
+        t, n = with_roots(make)
+        name = f"roots, {label} {i}"
+        reads(name, t)
+        scores(f"{name}, score", t, [rng.choice((1, 2)) for _ in range(n)])
+        sweep_and_filter(name, t)
+    for i in range(60):
+        t, n = with_roots(make)
+        own = [fields(w)[3] + 1 for w in t if w >> 28 == 2]
+        plan = [rng.choice((0, 0, 0, 0, 1, 2)) for _ in range(n)]
+        searches(f"roots, {label} {i}", t, plan, [(kits, rng.choice((0, 0, 25, 50, 80))) for kits in budgets(own, 4)])
+    for i in range(30):
+        t, n = with_roots(make)
+        own = [fields(w)[3] + 1 for w in t if w >> 28 == 2]
+        runs(f"job, roots, {label} {i}", [job_of(budgets(own, 1 + i % 2)[0], rng.choice((0, 0, 25, 50)))] + t)
+note("Made tables with root words and one word changed")
+for i in range(200):
+    t, n = with_roots(makers["made"])
+    r = fields(t[0])[3]
+    j = rng.choice((0, len(t) - 1, len(t) - 1 - rng.randrange(r), len(t) - 1 - rng.randrange(r), rng.randrange(len(t))))
+    reads(f"damaged, roots {i}", put(t, j, t[j] ^ 1 << rng.randrange(32)))
+
+services = [c for c in cases[before_roots:] if c[1] != "j"]
+note("Requests of opened tables with root words")
 on_opened_tables(first_refusals(services))
 on_opened_tables(answered(services)[::10])
 

@@ -2,14 +2,14 @@
 """Writes the standard input of the programs `plan_at_limit`, `plan_past_limit`, `plan_certain` and `plan_span`, and what they have to print, the latter by
 oracle.py.
 
-Both inputs begin with a job word and a table of 60 variables and 254 records, 1,264 bytes, which is the longest job that is answered.
-`plan_at_limit` reads these bytes alone. `plan_past_limit` has 36 more, so that the table is longer than any, which is refused; it then
-prints how many bytes are left unread, which are those after the first 1,265.
+The first two begin with a job word and a table of 60 variables, 254 records and 16 root words, 1,328 bytes, which is the longest job that is
+answered. `plan_at_limit` reads these bytes alone. `plan_past_limit` has 36 more, so that the table is longer than any, which is refused; it then
+prints how many bytes are left unread, which are those after the first 1,329.
 `plan_certain` reads a job of one kit and 100 percent, and table A of document 01 with certain events, 2/2 and 10/10.
-`plan_span` reads the table of `plan_at_limit` with lines of 501, 401, 301 and 201 kits, and a job of 1,000 kits, P 40 and Q 15.
+`plan_span` reads this table without root words, with lines of 501, 401, 301 and 201 kits, and a job of 1,000 kits, P 40 and Q 15.
 Run it in this folder: python3 make_limits.py
 """
-from oracle import bytes_of, printout, word
+from oracle import MOST_READ, bytes_of, printout, word
 
 CHOICES = (48, 51, 54, 57)
 
@@ -43,11 +43,14 @@ def write(name, data, after=""):
 
 
 table = [word(1, 60, 254, 0)] + [variable(p) for p in range(60)] + [record(k) for k in range(254)]
-job = bytes_of([word(5, 2, 0, 50)] + table)
-assert len(job) == 1264 and printout(job).startswith("choices 4 ")
+# roots above all lines, between them and below them
+roots = [word(6, 0, 1 + 21 * i % 64, 255 - 13 * i % 62 - 193 * (i % 2)) for i in range(16)]
+rooted = [word(1, 60, 254, 16)] + table[1:] + roots
+job = bytes_of([word(5, 2, 0, 50)] + rooted)
+assert len(job) == 1328 and printout(job).startswith("choices 4 ")
 write("plan_at_limit", job)
 past = job + bytes_of(table[-9:])
-write("plan_past_limit", past, str(len(past) - 1265))
+write("plan_past_limit", past, str(len(past) - MOST_READ))
 
 certain = [0x11002000, 0x20000000, 0x30401002, 0x20800000, 0x30C0500A, 0x40C00800, 0x40801000, 0x40400803, 0x40002003]
 write("plan_certain", bytes_of([word(5, 1, 0, 100)] + certain))

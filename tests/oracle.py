@@ -1,4 +1,4 @@
-"""Answers of the planner's services, written from documents 01 and 02 (papers 1 and 2) alone and by enumeration: what the test programs are compared with.
+"""Answers of the planner's services, written from documents 01 and 02 (papers 1 to 3) alone and by enumeration: what the test programs are compared with.
 
 Nothing here is shared with the crates. A table is a list of words (ints); a file is bytes.
 """
@@ -6,6 +6,7 @@ from itertools import product
 
 LIMIT = 2 ** 56
 MOST_KITS = 10020
+MOST_READ = 1329
 
 
 class Refused(Exception):
@@ -30,15 +31,17 @@ def word(kind, p, q, r):
 
 
 class Table:
-    def __init__(self, variables, records):
+    def __init__(self, variables, records, roots):
         self.variables = variables  # the kits of a choice, (a, b) of a chance
         self.records = records  # (position, hi, lo)
+        self.roots = roots  # (reward, node)
         self.choices = [i for i, v in enumerate(variables) if isinstance(v, int)]
         self.chances = [i for i, v in enumerate(variables) if not isinstance(v, int)]
         self.kits = [variables[i] for i in self.choices]
         self.scale = 1
         for i in self.chances:
             self.scale *= variables[i][1]
+        self.scale *= sum(reward for reward, _ in roots)
 
     def truth(self, node, assignment):
         while node > 1:
@@ -76,14 +79,14 @@ class Table:
 
 
 def read(data):
-    """The table, or a refusal 11 to 18."""
-    if len(data) < 4 or len(data) > 1260 or len(data) % 4:
+    """The table, or a refusal 11 to 18, 26 or 27."""
+    if len(data) < 4 or len(data) > 1324 or len(data) % 4:
         raise Refused(11, 0)
     ws = words_of(data)
-    kind, v, n, r = fields(ws[0])
-    if kind != 1 or not 1 <= v <= 60 or not 1 <= n <= 254 or r:
+    kind, v, n, root_words = fields(ws[0])
+    if kind != 1 or not 1 <= v <= 60 or not 1 <= n <= 254 or root_words > 16:
         raise Refused(12, 0)
-    if len(ws) != 1 + v + n:
+    if len(ws) != 1 + v + n + root_words:
         raise Refused(13, 0)
     variables = []
     for i in range(1, v + 1):
@@ -112,7 +115,15 @@ def read(data):
         if not right:
             raise Refused(17, 1 + v + k)
         records.append((p, hi, lo))
-    table = Table(variables, records)
+    roots = []
+    for i in range(1 + v + n, len(ws)):
+        kind, p, reward, node = fields(ws[i])
+        if kind != 6 or p or not 1 <= reward <= 64 or not 2 <= node <= n + 1:
+            raise Refused(26, i)
+        roots.append((reward, node))
+    table = Table(variables, records, roots or [(1, n + 1)])
+    if table.scale > LIMIT:
+        raise Refused(27, 0)
     for k, (p, hi, lo) in enumerate(records):
         if p in table.choices and not table.implies(lo, hi):
             raise Refused(18, 1 + v + k)
@@ -120,12 +131,17 @@ def read(data):
 
 
 def score(table, plan):
+    """The sum, over the roots, of the reward times the root's score."""
+    return sum(reward * root_score(table, plan, root) for reward, root in table.roots)
+
+
+def root_score(table, plan, root):
     """The sum, over all settlings of all chances whose walk from the root ends in true, of their products."""
     chances = table.chances
     assignment = [False] * len(table.variables)
     for line, i in enumerate(table.choices):
         assignment[i] = plan[line] == 1
-    root, total = len(table.records) + 1, 0
+    total = 0
     ways = [[holds for holds, x in ((False, b - a), (True, a)) if x] for a, b in (table.variables[i] for i in chances)]
     for values in product(*ways):  # all settlings but those of weight 0
         weight = 1
@@ -292,7 +308,7 @@ def show_search(data, plan, kits, percent, size, ways=None):
 
 def printout(data, ways=None):
     """What the program prints for the bytes on its standard input."""
-    data = data[:1265]
+    data = data[:MOST_READ]
     try:
         if len(data) < 4:
             raise Refused(10, 0)

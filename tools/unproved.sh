@@ -17,7 +17,7 @@ cp -r crates crates.txt "$work"
 mkdir -p "$work/crates/lib0/src"
 cat >"$work/crates/lib0/src/main.rt" <<'M'
 fn main() {
-    let mut input = [0u8; 1265];
+    let mut input = [0u8; 1329];
     let n = io::read_full(libc::STDIN_FILENO, &mut input);
     let mut out = [0u8; 20];
     let mut drops = [0u64; 20];

@@ -2,6 +2,7 @@
 use crate::draw::draw;
 use crate::draw::fork;
 use crate::draw::minus;
+use crate::draw::once_in;
 use crate::draw::over;
 use crate::draw::plus;
 use crate::draw::times;
@@ -9,15 +10,19 @@ use crate::file::File;
 use crate::file::Word;
 
 // Values that a field may be set to: the limits of documents 01 and 02 and the numbers beside them.
-const VALUES: [usize; 15] = [
+const VALUES: [usize; 19] = [
     0,
     1,
     2,
     3,
     4,
+    16,
+    17,
     60,
     61,
     63,
+    64,
+    65,
     254,
     255,
     500,
@@ -28,7 +33,24 @@ const VALUES: [usize; 15] = [
 ];
 
 // Lengths that a file may be cut or made longer to.
-const LENGTHS: [usize; 12] = [0, 1, 2, 3, 4, 5, 8, 1256, 1260, 1261, 1264, 1280];
+const LENGTHS: [usize; 16] = [
+    0,
+    1,
+    2,
+    3,
+    4,
+    5,
+    8,
+    1256,
+    1260,
+    1261,
+    1264,
+    1320,
+    1324,
+    1325,
+    1328,
+    1344,
+];
 
 // A table with one damage, or with two.
 pub fn damaged(file: File, seed: usize) -> File {
@@ -42,7 +64,7 @@ pub fn damaged(file: File, seed: usize) -> File {
 
 // A table with one damage.
 fn with_damage(file: File, seed: usize) -> File {
-    let way = draw(seed, 4, 16);
+    let way = draw(seed, 4, 20);
     match way {
         0 => file.sized(length(file, seed)),
         1 => with_heading(file, seed),
@@ -51,14 +73,16 @@ fn with_damage(file: File, seed: usize) -> File {
         5..=8 => flipped(file, seed),
         9..=11 => with_field(file, seed, variable_word(file, seed)),
         12 => with_scale(file, variable_word(file, seed)),
+        13 | 14 => with_field(file, seed, root_word(file, seed)),
+        15 => without_root(file, seed),
         _ => with_field(file, seed, record_word(file, seed)),
     }
 }
 
-// The file with a heading beyond the limits, or with one variable or record more or less than there are.
+// The file with a heading beyond the limits, or with one variable, record or root word more or less than there are.
 fn with_heading(file: File, seed: usize) -> File {
     let mut w = file.word(0);
-    let way = draw(seed, 12, 8);
+    let way = draw(seed, 12, 10);
     match way {
         0 => w.p = 0,
         1 => w.p = 61,
@@ -67,7 +91,9 @@ fn with_heading(file: File, seed: usize) -> File {
         4 => w.q = 255,
         5 => w.q = plus(w.q, 1),
         6 => w.q = minus(w.q, 1),
-        _ => w.r = 1,
+        7 => w.r = 17,
+        8 => w.r = minus(w.r, 1),
+        _ => w.r = plus(w.r, 1),
     }
     file.with_word(0, w)
 }
@@ -82,13 +108,31 @@ fn record_word(file: File, seed: usize) -> usize {
     plus(1, plus(file.variables(), draw(seed, 6, file.records())))
 }
 
+// A root word, or the last record where there is none.
+fn root_word(file: File, seed: usize) -> usize {
+    let n = file.roots();
+    if n == 0 {
+        return file.at_node(plus(file.records(), 1));
+    }
+    file.at_root(draw(seed, 13, n))
+}
+
+// The file without its last root word, or with that word in place of the one before it.
+fn without_root(file: File, seed: usize) -> File {
+    let n = minus(file.roots(), 1);
+    if once_in(seed, 14, 2) {
+        return file.counting(n);
+    }
+    file.with_word(file.at_root(minus(n, 1)), file.word(file.at_root(n)))
+}
+
 // A length beside the right one, or one of those at the limits.
 fn length(file: File, seed: usize) -> usize {
-    let d = draw(seed, 7, 24);
-    if d < 12 {
+    let d = draw(seed, 7, 28);
+    if d < 16 {
         return LENGTHS[d];
     }
-    minus(plus(file.size, minus(d, 12)), 6)
+    minus(plus(file.size, minus(d, 16)), 6)
 }
 
 // The file with one field of a word changed; the last way sets a of a chance by its b.
@@ -112,16 +156,16 @@ fn own_node(file: File, i: usize) -> usize {
 
 // A value in place of an old one.
 fn value(seed: usize, old: usize, other: usize) -> usize {
-    let d = draw(seed, 9, 29);
-    if d < 15 {
+    let d = draw(seed, 9, 33);
+    if d < 19 {
         return VALUES[d];
     }
     match d {
-        15..=17 => plus(old, 1),
-        18 | 19 => minus(old, 1),
-        20 | 21 => other,
-        22 => plus(other, 1),
-        23 => minus(other, 1),
+        19..=21 => plus(old, 1),
+        22 | 23 => minus(old, 1),
+        24 | 25 => other,
+        26 => plus(other, 1),
+        27 => minus(other, 1),
         _ => draw(seed, 10, 2048),
     }
 }

@@ -2,6 +2,7 @@
 use crate::draw::counted;
 use crate::draw::least;
 use crate::draw::minus;
+use crate::draw::over;
 use crate::draw::plus;
 use crate::draw::times;
 use crate::marks::Marks;
@@ -24,6 +25,8 @@ impl Word {
     pub const CHANCE: usize = 3;
 
     pub const RECORD: usize = 4;
+
+    pub const ROOT: usize = 6;
 
     pub fn heading(v: usize, n: usize) -> Word {
         Word {
@@ -61,6 +64,15 @@ impl Word {
         }
     }
 
+    pub fn root(reward: usize, node: usize) -> Word {
+        Word {
+            kind: Word::ROOT,
+            p: 0,
+            q: reward,
+            r: node,
+        }
+    }
+
     // The fields of a number.
     pub fn of(number: usize) -> Word {
         Word {
@@ -83,7 +95,7 @@ impl Word {
 
 // The bytes of a file, of which the first `size` count.
 pub struct File {
-    pub bytes: [u8; 1280],
+    pub bytes: [u8; 1344],
     pub size: usize,
 }
 
@@ -91,10 +103,18 @@ impl File {
     // A file of its heading alone, as long as the heading says.
     pub fn started(v: usize, n: usize) -> File {
         let empty = File {
-            bytes: [0; 1280],
+            bytes: [0; 1344],
             size: times(4, plus(1, plus(v, n))),
         };
         empty.with_word(0, Word::heading(v, n))
+    }
+
+    // The file with a number of root words in its heading, and as long as it then says.
+    pub fn counting(self, roots: usize) -> File {
+        let mut heading = self.word(0);
+        heading.r = roots;
+        let file = self.with_word(0, heading);
+        file.sized(times(4, file.at_root(roots)))
     }
 
     // The file with a size.
@@ -107,19 +127,19 @@ impl File {
     pub fn length(self) -> usize
         ensures { λ r. ⌜ Counts r (self .bytes) ⌝ }
     {
-        least(self.size, 1280)
+        least(self.size, 1344)
     }
 
     // A byte of the file, 0 past the end.
     pub fn byte(self, at: usize) -> usize
         ensures { λ r. ⌜ r < 256 ⌝ }
     {
-        if at < 1280 { wide(self.bytes[at]) } else { 0 }
+        if at < 1344 { wide(self.bytes[at]) } else { 0 }
     }
 
     // The file with another byte. Past the end it stays as it is.
     pub fn with_byte(mut self, at: usize, b: usize) -> File {
-        if at < 1280 {
+        if at < 1344 {
             self.bytes[at] = (b % 256) as u8;
         }
         self
@@ -158,6 +178,16 @@ impl File {
     // N of the heading.
     pub fn records(self) -> usize {
         self.word(0).q
+    }
+
+    // R of the heading.
+    pub fn roots(self) -> usize {
+        self.word(0).r
+    }
+
+    // The place of a root word by its number, counted from the heading.
+    pub fn at_root(self, i: usize) -> usize {
+        plus(plus(1, i), plus(self.variables(), self.records()))
     }
 
     // The word of a node that is a record, counted from the heading.
@@ -205,6 +235,24 @@ impl File {
             p += 1;
         }
         sum
+    }
+
+    // How often the product of b goes into 2^56.
+    pub fn room(self) -> usize {
+        let v = self.variables();
+        let mut room = 72057594037927936;
+        let mut p = 0;
+        while p < v {
+            room = over(room, self.share_of(p));
+            p += 1;
+        }
+        room
+    }
+
+    // The b of the chance at a position, or 1 for a choice.
+    fn share_of(self, p: usize) -> usize {
+        let w = self.word(plus(1, p));
+        if w.kind == Word::CHANCE { w.r } else { 1 }
     }
 
     // The record of a node. An end is its own child.

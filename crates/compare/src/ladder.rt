@@ -9,15 +9,16 @@ use crate::draw::times;
 use crate::file::File;
 use crate::file::Word;
 use crate::records::with_records;
+use crate::roots::with_roots;
 use crate::variables::LINES;
 use crate::variables::with_variables;
 
-// A table whose root is one of the four records of the first position.
+// A table whose root, without root words, is one of the four records of the first position.
 pub fn ladder(seed: usize) -> File {
     let v = plus(3, draw(seed, 1, 6));
     let n = minus(times(4, v), draw(seed, 2, 4));
     let varied = with_variables(File::started(v, n), fork(seed, 3), LINES);
-    with_records(varied, fork(seed, 4), LINES)
+    with_roots(with_records(varied, fork(seed, 4), LINES), fork(seed, 5))
 }
 
 // A record by its number, from the last position up.

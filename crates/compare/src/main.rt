@@ -10,6 +10,7 @@ mod ladder;
 mod marks;
 mod records;
 mod requests;
+mod roots;
 mod tables;
 mod tally;
 mod twice;

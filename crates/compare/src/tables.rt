@@ -10,6 +10,7 @@ use crate::draw::times;
 use crate::file::File;
 use crate::file::Word;
 use crate::records::with_records;
+use crate::roots::with_roots;
 use crate::variables::MIXED;
 use crate::variables::with_variables;
 
@@ -23,7 +24,7 @@ pub struct Pair {
 pub fn table(seed: usize) -> File {
     let started = File::started(variable_count(seed), record_count(seed));
     let varied = with_variables(started, fork(seed, 1), MIXED);
-    with_records(varied, fork(seed, 2), MIXED)
+    with_roots(with_records(varied, fork(seed, 2), MIXED), fork(seed, 9))
 }
 
 // Mostly up to 7, and up to 10.

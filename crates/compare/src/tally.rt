@@ -184,7 +184,7 @@ impl Tally {
     // The line of a refusal's number, for those that the services have.
     fn show_refused(self, number: usize) {
         match number {
-            11..=18 | 21..=25 | 31..=32 => self.show_count(number),
+            11..=18 | 21..=27 | 31..=32 => self.show_count(number),
             _ => {}
         }
     }

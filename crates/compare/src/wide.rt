@@ -1,12 +1,15 @@
-// Tables of up to 60 variables and 254 records, with too many choices, too large a product, or neither. One record of each is
-// wrong, so that none is accepted.
+// Tables of up to 60 variables, 254 records and 16 root words, with too many choices, too large a product, or neither. One record
+// or the last root word of each is wrong, so that none is accepted.
 use crate::draw::draw;
 use crate::draw::fork;
 use crate::draw::minus;
+use crate::draw::once_in;
 use crate::draw::plus;
 use crate::file::File;
 use crate::file::Word;
 use crate::records::with_records;
+use crate::roots::with_roots;
+use crate::roots::wrong;
 use crate::variables::WIDE;
 use crate::variables::with_variables;
 
@@ -14,7 +17,24 @@ pub fn wide(seed: usize) -> File {
     let v = minus(60, draw(seed, 1, 40));
     let n = minus(254, draw(seed, 2, 254));
     let varied = with_variables(File::started(v, n), fork(seed, 3), WIDE);
-    with_fault(with_records(varied, seed, WIDE), fork(seed, 4))
+    let made = with_records(varied, seed, WIDE);
+    let rooted = with_roots(made, fork(seed, 5));
+    if once_in(seed, 6, 2) {
+        with_wrong_root(rooted, fork(seed, 7))
+    } else {
+        with_fault(rooted, fork(seed, 4))
+    }
+}
+
+// The file with a wrong root word, in place of the last one, or alone.
+fn with_wrong_root(file: File, seed: usize) -> File {
+    let last = minus(file.roots(), 1);
+    let counted = file.counting(plus(last, 1));
+    let w = Word::root(plus(1, draw(seed, 8, 64)), 2);
+    counted.with_word(
+        counted.at_root(last),
+        wrong(w, fork(seed, 9), counted.records()),
+    )
 }
 
 // The file with one record that is wrong.

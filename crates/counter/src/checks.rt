@@ -13,17 +13,22 @@ use crate::table::choices_below;
 use crate::table::place_of;
 use crate::table::record;
 use crate::table::records;
+use crate::table::root_place;
+use crate::table::root_words;
 use crate::table::scale;
 use crate::table::scale_below;
 use crate::table::variable;
 use crate::table::variables;
 use crate::table::word_at;
 
+// The most that B may be, 2^56.
+const LIMIT: u64 = 72057594037927936;
+
 // All checks but 31 and 32. `least` is the least mark: 1 for the score, else 0. A service without
 // percent or kits hands in 0, and one without a buffer the plan's own length.
 pub fn check(
     file: &[u8],
-    words: &[u64; 320],
+    words: &[u64; 331],
     plan: &[u8],
     least: u8,
     percent: u32,
@@ -67,29 +72,31 @@ fn check_plan(plan: &[u8], lines: u64, least: u8) -> Verdict {
     answered(0, 0, 0, 0)
 }
 
-// 11 to 18, and 99 before 18 where there are more settlings than are tried. The values: V, N, the
-// number of choices and B.
-pub fn check_table(length: usize, words: &[u64; 320]) -> Verdict {
-    if length < 4 || 1260 < length || length % 4 != 0 {
+// 11 to 17, 26, 27 and 18, and 99 before 18 where there are more settlings than are tried. The
+// values: V, N, the number of choices and B.
+pub fn check_table(length: usize, words: &[u64; 331]) -> Verdict {
+    if length < 4 || 1324 < length || length % 4 != 0 {
         return refused(11, 0);
     }
     if !right_heading(word_at(words, 0)) {
         return refused(12, 0);
     }
-    let count = add(1, add(variables(words), records(words)));
-    if length as u64 != mul(4, count) {
+    if length as u64 != mul(4, root_place(words, root_words(words))) {
         return refused(13, 0);
     }
-    let mut number: u64 = 14;
-    while number < 19 {
-        if number == 18 && 16 < variables(words) {
-            return refused(99, 0);
-        }
-        let place = first_at_fault(words, number);
-        if place != 0 {
-            return refused(number, place);
-        }
-        number += 1;
+    let checked = check_words(words);
+    if checked.number != 0 {
+        return checked;
+    }
+    if LIMIT < scale(words) {
+        return refused(27, 0);
+    }
+    if 16 < variables(words) {
+        return refused(99, 0);
+    }
+    let place = first_record(words, 18);
+    if place != 0 {
+        return refused(18, place);
     }
     answered(
         variables(words),
@@ -100,15 +107,32 @@ pub fn check_table(length: usize, words: &[u64; 320]) -> Verdict {
 }
 
 fn right_heading(word: Word) -> bool {
-    word.kind == 1 && within(word.p, 1, 60) && within(word.q, 1, 254) && word.r == 0
+    word.kind == 1 && within(word.p, 1, 60) && within(word.q, 1, 254) && word.r <= 16
 }
 
 fn within(x: u64, low: u64, high: u64) -> bool {
     low <= x && x <= high
 }
 
-// The place of the first word at fault by check 14 to 18; 0 where there is none.
-fn first_at_fault(words: &[u64; 320], number: u64) -> u64 {
+// 14 to 17 and 26.
+fn check_words(words: &[u64; 331]) -> Verdict {
+    let mut number: u64 = 14;
+    while number < 18 {
+        let place = first_at_fault(words, number);
+        if place != 0 {
+            return refused(number, place);
+        }
+        number += 1;
+    }
+    let place = first_root(words);
+    if place != 0 {
+        return refused(26, place);
+    }
+    answered(0, 0, 0, 0)
+}
+
+// The place of the first word at fault by check 14 to 17; 0 where there is none.
+fn first_at_fault(words: &[u64; 331], number: u64) -> u64 {
     if number < 17 {
         first_variable(words, number)
     } else {
@@ -116,7 +140,26 @@ fn first_at_fault(words: &[u64; 320], number: u64) -> u64 {
     }
 }
 
-fn first_variable(words: &[u64; 320], number: u64) -> u64 {
+// The place of the first root word at fault; 0 where there is none.
+fn first_root(words: &[u64; 331]) -> u64 {
+    let end = root_words(words);
+    let mut i: u64 = 0;
+    while i < end {
+        let place = root_place(words, i);
+        if !right_root(words, word_at(words, place)) {
+            return place;
+        }
+        i += 1;
+    }
+    0
+}
+
+fn right_root(words: &[u64; 331], word: Word) -> bool {
+    let last = add(records(words), 1);
+    word.kind == 6 && word.p == 0 && within(word.q, 1, 64) && within(word.r, 2, last)
+}
+
+fn first_variable(words: &[u64; 331], number: u64) -> u64 {
     let end = variables(words);
     let mut v: u64 = 0;
     while v < end {
@@ -129,14 +172,14 @@ fn first_variable(words: &[u64; 320], number: u64) -> u64 {
 }
 
 // 14: the word is wrong. 15 and 16: with it there are too many choices, or the product is too large.
-fn variable_at_fault(words: &[u64; 320], number: u64, v: u64) -> bool {
+fn variable_at_fault(words: &[u64; 331], number: u64, v: u64) -> bool {
     if number == 14 {
         return !right_variable(variable(words, v), v);
     }
     if number == 15 {
         return 20 < choices_below(words, add(v, 1));
     }
-    72057594037927936 < scale_below(words, add(v, 1))
+    LIMIT < scale_below(words, add(v, 1))
 }
 
 fn right_variable(word: Word, v: u64) -> bool {
@@ -149,7 +192,7 @@ fn right_variable(word: Word, v: u64) -> bool {
     word.kind == 3 && within(word.r, 1, 1000) && word.q <= word.r
 }
 
-fn first_record(words: &[u64; 320], number: u64) -> u64 {
+fn first_record(words: &[u64; 331], number: u64) -> u64 {
     let end = add(records(words), 2);
     let mut node: u64 = 2;
     while node < end {
@@ -162,7 +205,7 @@ fn first_record(words: &[u64; 320], number: u64) -> u64 {
 }
 
 // 17: the word is wrong. 18: it is a choice, and not monotone.
-fn record_at_fault(words: &[u64; 320], number: u64, node: u64) -> bool {
+fn record_at_fault(words: &[u64; 331], number: u64, node: u64) -> bool {
     let word = record(words, node);
     if number == 17 {
         return !right_record(words, node, word);
@@ -170,7 +213,7 @@ fn record_at_fault(words: &[u64; 320], number: u64, node: u64) -> bool {
     variable(words, word.p).kind == 2 && falls(words, word.q, word.r)
 }
 
-fn right_record(words: &[u64; 320], node: u64, word: Word) -> bool {
+fn right_record(words: &[u64; 331], node: u64, word: Word) -> bool {
     if word.kind != 4 || variables(words) <= word.p {
         return false;
     }
@@ -179,7 +222,7 @@ fn right_record(words: &[u64; 320], node: u64, word: Word) -> bool {
 
 // Whether a record with this node number and position may have the child: the child's number is
 // smaller, and where it is a record, its position is larger.
-fn right_child(words: &[u64; 320], node: u64, position: u64, child: u64) -> bool {
+fn right_child(words: &[u64; 331], node: u64, position: u64, child: u64) -> bool {
     if node <= child {
         return false;
     }
@@ -187,7 +230,7 @@ fn right_child(words: &[u64; 320], node: u64, position: u64, child: u64) -> bool
 }
 
 // Whether some settling of all variables leads from lo to true and from hi to false.
-fn falls(words: &[u64; 320], hi: u64, lo: u64) -> bool {
+fn falls(words: &[u64; 331], hi: u64, lo: u64) -> bool {
     let end = only(variables(words));
     let mut settling: u64 = 0;
     while settling < end {

@@ -56,11 +56,11 @@ fn mark_of(marks: Marks, c: u64) -> u8 {
 }
 
 // The choices that are not in a set of choices.
-fn others(words: &[u64; 320], set: u64) -> u64 {
+fn others(words: &[u64; 331], set: u64) -> u64 {
     sub(only(choices(words)), 1) ^ set
 }
 
-pub fn full_marks(words: &[u64; 320], full: u64) -> Marks {
+pub fn full_marks(words: &[u64; 331], full: u64) -> Marks {
     Marks {
         taken: full,
         left: others(words, full),
@@ -68,12 +68,12 @@ pub fn full_marks(words: &[u64; 320], full: u64) -> Marks {
 }
 
 // The score with all open lines taken.
-pub fn top_of(words: &[u64; 320], marks: Marks) -> u64 {
+pub fn top_of(words: &[u64; 331], marks: Marks) -> u64 {
     score_of(words, others(words, marks.left))
 }
 
 // The top less the score with c left and the other open lines taken; 0 for a line not open.
-pub fn drop_of(words: &[u64; 320], marks: Marks, c: u64) -> u64 {
+pub fn drop_of(words: &[u64; 331], marks: Marks, c: u64) -> u64 {
     if mark_of(marks, c) != 0 {
         return 0;
     }
@@ -87,7 +87,7 @@ fn put_drop(drops: &mut [u64], c: u64, drop: u64) {
     }
 }
 
-pub fn write_drops(words: &[u64; 320], marks: Marks, drops: &mut [u64]) {
+pub fn write_drops(words: &[u64; 331], marks: Marks, drops: &mut [u64]) {
     let end = choices(words);
     let mut c: u64 = 0;
     while c < end {
@@ -112,7 +112,7 @@ pub fn write_marks(out: &mut [u8], marks: Marks) {
 }
 
 // The kits of the lines taken.
-pub fn cost_of(words: &[u64; 320], taken: u64) -> u64 {
+pub fn cost_of(words: &[u64; 331], taken: u64) -> u64 {
     let end = variables(words);
     let mut sum: u64 = 0;
     let mut v: u64 = 0;
@@ -124,7 +124,7 @@ pub fn cost_of(words: &[u64; 320], taken: u64) -> u64 {
 }
 
 // The kits of the line at position v, R and one more; 0 where it is not taken, and for a chance.
-fn kits_at(words: &[u64; 320], taken: u64, v: u64) -> u64 {
+fn kits_at(words: &[u64; 331], taken: u64, v: u64) -> u64 {
     let word = variable(words, v);
     if word.kind == 2 && has(taken, choices_below(words, v)) {
         return add(word.r, 1);
@@ -143,7 +143,7 @@ pub struct Seen {
     pub left: u64,
 }
 
-pub fn passing(words: &[u64; 320], marks: Marks, percent: u32) -> Seen {
+pub fn passing(words: &[u64; 331], marks: Marks, percent: u32) -> Seen {
     let end = only(choices(words));
     let mut seen = Seen {
         any: false,
@@ -163,7 +163,7 @@ pub fn passing(words: &[u64; 320], marks: Marks, percent: u32) -> Seen {
 }
 
 // The open lines that no passing completion leaves.
-pub fn forced_by(words: &[u64; 320], marks: Marks, seen: Seen) -> u64 {
+pub fn forced_by(words: &[u64; 331], marks: Marks, seen: Seen) -> u64 {
     others(words, marks.taken | marks.left) & others(words, seen.left)
 }
 
@@ -184,7 +184,7 @@ pub fn none_held() -> Best {
     }
 }
 
-pub fn best_of(words: &[u64; 320], marks: Marks, kits: u32, percent: u32) -> Best {
+pub fn best_of(words: &[u64; 331], marks: Marks, kits: u32, percent: u32) -> Best {
     let end = only(choices(words));
     let mut best = none_held();
     let mut full: u64 = 0;
@@ -197,7 +197,7 @@ pub fn best_of(words: &[u64; 320], marks: Marks, kits: u32, percent: u32) -> Bes
     best
 }
 
-fn tried(words: &[u64; 320], best: Best, full: u64, percent: u32) -> Best {
+fn tried(words: &[u64; 331], best: Best, full: u64, percent: u32) -> Best {
     let score = score_of(words, full);
     if !passes(words, score, percent) {
         return best;
@@ -206,7 +206,7 @@ fn tried(words: &[u64; 320], best: Best, full: u64, percent: u32) -> Best {
 }
 
 // The one that ranks first of the best plan, if one is held, and another full plan.
-pub fn first_of(words: &[u64; 320], best: Best, score: u64, full: u64) -> Best {
+pub fn first_of(words: &[u64; 331], best: Best, score: u64, full: u64) -> Best {
     if best.held && !ranks_before(words, score, full, best) {
         return best;
     }
@@ -219,7 +219,7 @@ pub fn first_of(words: &[u64; 320], best: Best, score: u64, full: u64) -> Best {
 }
 
 // Higher score; then fewer kits; then the lowest line in which they differ.
-fn ranks_before(words: &[u64; 320], score: u64, full: u64, best: Best) -> bool {
+fn ranks_before(words: &[u64; 331], score: u64, full: u64, best: Best) -> bool {
     if score != best.score {
         return best.score < score;
     }
@@ -244,7 +244,7 @@ fn takes_first(a: u64, b: u64) -> bool {
 }
 
 // The lowest open line; the number of choices where none is open.
-pub fn lowest_open(words: &[u64; 320], marks: Marks) -> u64 {
+pub fn lowest_open(words: &[u64; 331], marks: Marks) -> u64 {
     let end = choices(words);
     let mut c: u64 = 0;
     while c < end {

@@ -1,4 +1,4 @@
-// The score of a full plan, by every settling of the chances. A full plan is the set of the choice
+// The score of a full plan, by every settling of the chances, for each root afresh. A full plan is the set of the choice
 // numbers that it takes; a settling is the set of the positions whose choice is taken or whose
 // chance holds.
 use crate::numbers::add;
@@ -8,13 +8,14 @@ use crate::numbers::only;
 use crate::numbers::sub;
 use crate::table::choices;
 use crate::table::record;
-use crate::table::records;
+use crate::table::root_at;
+use crate::table::roots;
 use crate::table::scale;
 use crate::table::variable;
 use crate::table::variables;
 
 // Whether the walk from a node ends in true.
-pub fn walk(words: &[u64; 320], start: u64, settling: u64) -> bool {
+pub fn walk(words: &[u64; 331], start: u64, settling: u64) -> bool {
     let mut node = start;
     let mut steps: u64 = 0;
     while steps < 60 {
@@ -27,7 +28,7 @@ pub fn walk(words: &[u64; 320], start: u64, settling: u64) -> bool {
     node == 1
 }
 
-fn child(words: &[u64; 320], node: u64, settling: u64) -> u64 {
+fn child(words: &[u64; 331], node: u64, settling: u64) -> u64 {
     let word = record(words, node);
     if has(settling, word.p) {
         word.q
@@ -44,7 +45,7 @@ struct Made {
 }
 
 // The settling that a full plan and the set of the chance numbers that hold make.
-fn settle(words: &[u64; 320], full: u64, holding: u64) -> u64 {
+fn settle(words: &[u64; 331], full: u64, holding: u64) -> u64 {
     let end = variables(words);
     let mut made = Made {
         positions: 0,
@@ -59,7 +60,7 @@ fn settle(words: &[u64; 320], full: u64, holding: u64) -> u64 {
     made.positions
 }
 
-fn settle_one(words: &[u64; 320], full: u64, holding: u64, v: u64, made: Made) -> Made {
+fn settle_one(words: &[u64; 331], full: u64, holding: u64, v: u64, made: Made) -> Made {
     let mut next = made;
     if variable(words, v).kind == 2 {
         next.positions = with(made.positions, v, has(full, made.choices));
@@ -78,7 +79,7 @@ fn with(set: u64, v: u64, on: bool) -> u64 {
 
 // What the variable at position v gives to the product: a where it holds and b - a where it does
 // not; 1 for a choice.
-fn share(words: &[u64; 320], v: u64, settling: u64) -> u64 {
+fn share(words: &[u64; 331], v: u64, settling: u64) -> u64 {
     let word = variable(words, v);
     if word.kind == 2 {
         return 1;
@@ -90,7 +91,7 @@ fn share(words: &[u64; 320], v: u64, settling: u64) -> u64 {
     }
 }
 
-fn product(words: &[u64; 320], settling: u64) -> u64 {
+fn product(words: &[u64; 331], settling: u64) -> u64 {
     let end = variables(words);
     let mut result: u64 = 1;
     let mut v: u64 = 0;
@@ -101,8 +102,20 @@ fn product(words: &[u64; 320], settling: u64) -> u64 {
     result
 }
 
-pub fn score_of(words: &[u64; 320], full: u64) -> u64 {
-    let root = add(records(words), 1);
+// The sum, over the roots, of the reward times the root's score.
+pub fn score_of(words: &[u64; 331], full: u64) -> u64 {
+    let end = roots(words);
+    let mut sum: u64 = 0;
+    let mut i: u64 = 0;
+    while i < end {
+        let root = root_at(words, i);
+        sum = add(sum, mul(root.reward, root_score(words, full, root.node)));
+        i += 1;
+    }
+    sum
+}
+
+fn root_score(words: &[u64; 331], full: u64, root: u64) -> u64 {
     let end = only(sub(variables(words), choices(words)));
     let mut sum: u64 = 0;
     let mut holding: u64 = 0;
@@ -117,6 +130,6 @@ pub fn score_of(words: &[u64; 320], full: u64) -> u64 {
 }
 
 // Whether a score passes a percent: 100 times it is not less than the percent times B.
-pub fn passes(words: &[u64; 320], score: u64, percent: u32) -> bool {
+pub fn passes(words: &[u64; 331], score: u64, percent: u32) -> bool {
     !(mul(100, score) < mul(percent as u64, scale(words)))
 }

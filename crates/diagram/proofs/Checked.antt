@@ -6,7 +6,7 @@ use native.Mathlib.Omega.{arith}
 use mathlib.Core.Path.{_≡_, refl, sym, _∙_}
 use mathlib.Core.Option.{Option, none, some}
 use mathlib.Core.List.{List, [], _∷_, _++_}
-use Rattle.diagram.specs.Checks.{Check, lengthFault, headingFault, countFault, variableFault, choiceFault, scaleFault, recordFault, monotoneFault, tableChecks}
+use Rattle.diagram.specs.Checks.{Check, lengthFault, headingFault, countFault, variableFault, choiceFault, scaleFault, recordFault, rootFault, rewardFault, monotoneFault, tableChecks}
 use Rattle.diagram.specs.Services.{Outcome, refused, answered, checked, Reading, reading, readOutcome}
 
 -- ---------------------------------------------------------------------------
@@ -84,6 +84,8 @@ pub record Passed (s : List ℕ) : Type 0 where
   pub choices : choiceFault s ≡ none
   pub scale : scaleFault s ≡ none
   pub records : recordFault s ≡ none
+  pub roots : rootFault s ≡ none
+  pub reward : rewardFault s ≡ none
   pub monotone : monotoneFault s ≡ none
 
 -- the first check of a list that answers has passed, and so has the rest
@@ -104,7 +106,9 @@ read-passed s r e =
     let c15 = first-passed _ _ s r (c14 .1) in
     let c16 = first-passed _ _ s r (c15 .1) in
     let c17 = first-passed _ _ s r (c16 .1) in
-    let c18 = first-passed _ _ s r (c17 .1) in
+    let c26 = first-passed _ _ s r (c17 .1) in
+    let c27 = first-passed _ _ s r (c26 .1) in
+    let c18 = first-passed _ _ s r (c27 .1) in
     record {
       length = c11 .0;
       heading = c12 .0;
@@ -113,6 +117,8 @@ read-passed s r e =
       choices = c15 .0;
       scale = c16 .0;
       records = c17 .0;
+      roots = c26 .0;
+      reward = c27 .0;
       monotone = c18 .0;
     }
 

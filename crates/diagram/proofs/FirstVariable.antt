@@ -7,8 +7,8 @@ use mathlib.Core.Path.{_≡_, refl, ap, ap₂, fun-ext}
 use mathlib.Core.Bool.{Bool, true, false, cond}
 use mathlib.Core.List.{List, [], _∷_, _++_, map, tail, map-map, map-append}
 use lib.ListN.{getD}
-use Rattle.diagram.specs.Table.{Variable, choice, chance, Table, scaleOf, scale}
-use Rattle.diagram.specs.Score.{isTaken, settlings, weight, sum, total, scoreFrom, score}
+use Rattle.diagram.specs.Table.{Variable, choice, chance, Root, Table, scaleOf, totalReward, scale}
+use Rattle.diagram.specs.Score.{isTaken, settlings, weight, sum, total, scoreFrom, rewarded, score}
 
 -- ---------------------------------------------------------------------------
 -- Sums
@@ -27,6 +27,23 @@ sum-times : (w : ℕ) (f : List Bool → Bool) (g : List Bool → ℕ) (ss : Lis
 unfolding sum
 sum-times w f g [] = omega arith
 sum-times w f g (s ∷ ss) = omega (arith, cond-times w (f s) (g s), sum-times w f g ss)
+
+-- ---------------------------------------------------------------------------
+-- Sums over roots, however many
+
+-- one number at every node comes to the total reward times it
+pub rewarded-all : (x : ℕ) (rs : List Root) → rewarded (λ _. x) rs ≡ totalReward rs * x
+unfolding rewarded totalReward
+rewarded-all x [] = omega arith
+rewarded-all x (r ∷ rs) = omega (arith, rewarded-all x rs)
+
+pub rewarded-same : (f g : ℕ → ℕ) (rs : List Root) → ((n : ℕ) → f n ≡ g n) → rewarded f rs ≡ rewarded g rs
+rewarded-same f g rs h = ap (λ (z : ℕ → ℕ). rewarded z rs) (fun-ext h)
+
+pub rewarded-le : (f g : ℕ → ℕ) (rs : List Root) → ((n : ℕ) → f n ≤ g n) → rewarded f rs ≤ rewarded g rs
+unfolding rewarded
+rewarded-le f g [] h = le-refl 0
+rewarded-le f g (r ∷ rs) h = omega (arith, mul-le-mul-left (r .reward) (h (r .node)), rewarded-le f g rs h)
 
 -- ---------------------------------------------------------------------------
 -- The first variable
@@ -72,7 +89,7 @@ total-le (chance-shares {a} {b} {vs} ab b1 h) p f =
 
 pub score-le-scale : (t : Table) → Shares (t .variables) → (p : List ℕ) → score t p ≤ scale t
 unfolding score scoreFrom scale
-score-le-scale t h p = total-le h p _
+score-le-scale t h p = rw (← rewarded-all (scaleOf (t .variables)) (t .roots)) (rewarded-le _ _ (t .roots) (λ n. total-le h p _))
 
 pub scale-positive : {vs : List Variable} → Shares vs → 1 ≤ scaleOf vs
 unfolding scaleOf

@@ -9,13 +9,13 @@ use mathlib.Core.Bool.{Bool, true, false, cond, false≢true}
 use mathlib.Core.List.{List, [], _∷_, tail}
 use borrow.Author.Tests.{leb-true, le-leb, eqb-true}
 use lib.ListN.{length, getD, set}
-use Rattle.diagram.specs.Table.{Variable, choice, chance, Table, recordAt, root, isChoice, scale}
+use Rattle.diagram.specs.Table.{Variable, choice, chance, Table, recordAt, isChoice, scale}
 use Rattle.diagram.specs.Score.{isTaken, truth, total, scoreFrom, score, every, implies}
 use Rattle.diagram.specs.Plans.{completions, openTaken, isOpen, leaves, upperBound, derivative, passes}
 use Rattle.diagram.specs.Checks.{isMonotoneAt}
 use Rattle.diagram.proofs.Every.{both, implied, every-append, every-map, every-split, each-assignment}
 use Rattle.diagram.proofs.Truth.{Formed, truth-false, truth-true, truth-step}
-use Rattle.diagram.proofs.FirstVariable.{total-nil, total-choice, total-chance}
+use Rattle.diagram.proofs.FirstVariable.{total-nil, total-choice, total-chance, rewarded-le}
 
 -- What check 18 finds of all records of a table. It holds past the last record too, where records are of zeros.
 abbrev pub Monotone : Table → Type 0
@@ -116,7 +116,8 @@ module _ (t : Table) (formed : Formed (length (t .variables)) (t .records)) (mon
 
   pub score-rises : (p q : List ℕ) → Under p q → score t p ≤ score t q
   unfolding score scoreFrom
-  score-rises p q h = total-up (t .variables) p q h _ _ (λ s s′ u. truth-up u (root t) (root t) (le-refl (root t)))
+  score-rises p q h =
+      rewarded-le _ _ (t .roots) (λ n. total-up (t .variables) p q h _ _ (λ s s′ u. truth-up u n n (le-refl n)))
 
 -- ---------------------------------------------------------------------------
 -- Completions

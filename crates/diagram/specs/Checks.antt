@@ -1,4 +1,5 @@
--- Document 01, "Turned away": the grounds for refusing a request, in the table's order. A check gives the place at fault, or none where it passes.
+-- Document 01, "Turned away", with 26 and 27 of document 02, paper 3: the grounds for refusing a request, in the table's order. A check gives the place at
+-- fault, or none where it passes.
 use Prim.Native.Nat.{ℕ, zero, suc, _+_, _-_, _*_, _%_, _^_}
 use mathlib.Core.Bool.{Bool, true, false, cond, not, _&&_, _||_}
 use mathlib.Core.List.{List, [], _∷_, _++_}
@@ -6,7 +7,7 @@ use mathlib.Core.Option.{Option, none, some}
 use lib.ListN.{length, getD, take}
 use lib.Dec.{eqb, ltb, leb}
 use Rattle.diagram.specs.Words.{wordAt, kind, fieldP, fieldQ, fieldR}
-use Rattle.diagram.specs.Table.{chance, Record, Table, variableCount, recordCount, tableOf, recordAt, isChoice, choiceCount, scaleOf}
+use Rattle.diagram.specs.Table.{chance, Record, Table, variableCount, recordCount, rootCount, tableOf, recordAt, isChoice, choiceCount, scaleOf, scale}
 use Rattle.diagram.specs.Score.{implies}
 
 -- Place 0 where a fault is there, and no place where it is not
@@ -31,23 +32,23 @@ unfoldable pub jobFault : List ℕ → Option ℕ
 jobFault input = placeZero (not (eqb (kind (wordAt input 0)) 5))
 
 -- ---------------------------------------------------------------------------
--- 11 to 18: the file
+-- 11 to 18, 26 and 27: the file
 
--- 11: "table length under 4, over 1,260 or no multiple of 4"
+-- 11: "table length under 4, over [..] or no multiple of 4"; paper 3: "Refusal 11 allows 1,324 bytes"
 unfoldable pub lengthFault : List ℕ → Option ℕ
-lengthFault s = placeZero (ltb (length s) 4 || ltb 1260 (length s) || not (eqb (length s % 4) 0))
+lengthFault s = placeZero (ltb (length s) 4 || ltb 1324 (length s) || not (eqb (length s % 4) 0))
 
--- A heading is of kind 1 with V from 1 to 60, N from 1 to 254 and R 0
+-- A heading is of kind 1 with V from 1 to 60, N from 1 to 254 and R at most 16: "12 comes for R above 16"
 unfoldable pub isHeading : ℕ → Bool
-isHeading w = eqb (kind w) 1 && (leb 1 (fieldP w) && leb (fieldP w) 60) && (leb 1 (fieldQ w) && leb (fieldQ w) 254) && eqb (fieldR w) 0
+isHeading w = eqb (kind w) 1 && (leb 1 (fieldP w) && leb (fieldP w) 60) && (leb 1 (fieldQ w) && leb (fieldQ w) 254) && leb (fieldR w) 16
 
 -- 12: "heading's kind or a field wrong"
 unfoldable pub headingFault : List ℕ → Option ℕ
 headingFault s = placeZero (not (isHeading (wordAt s 0)))
 
--- 13: "length is not 4 times (1 + V + N)"
+-- 13: "length is not 4 times (1 + V + N)"; paper 3: "13 counts root words"
 unfoldable pub countFault : List ℕ → Option ℕ
-countFault s = placeZero (not (eqb (length s) (4 * (1 + variableCount s + recordCount s))))
+countFault s = placeZero (not (eqb (length s) (4 * (1 + variableCount s + recordCount s + rootCount s))))
 
 -- A choice word is of kind 2 with its position, Q 0 and R from 0 to 500, which is its kits less one, a chance word of kind 3 with its position, b from 1 to
 -- 1,000 and a from 0 to b
@@ -91,6 +92,20 @@ recordFault s =
     (λ i. not (isRecordWord (variableCount s) (tableOf s .records) (i - (1 + variableCount s)) (wordAt s i)))
     (1 + variableCount s)
     (recordCount s)
+
+-- A root word is of kind 6 with P zero, "Q a reward of 1 to 64, R a record's node number" of n records
+unfoldable pub isRootWord : (records : ℕ) → ℕ → Bool
+isRootWord n w =
+    eqb (kind w) 6 && eqb (fieldP w) 0 && (leb 1 (fieldQ w) && leb (fieldQ w) 64) && (leb 2 (fieldR w) && leb (fieldR w) (n + 1))
+
+-- 26: "the first wrong root word (its place)"
+unfoldable pub rootFault : List ℕ → Option ℕ
+rootFault s =
+    firstPlace (λ i. not (isRootWord (recordCount s) (wordAt s i))) (1 + variableCount s + recordCount s) (rootCount s)
+
+-- 27: "B times the total reward is above 2^56 (place 0)"
+unfoldable pub rewardFault : List ℕ → Option ℕ
+rewardFault s = placeZero (ltb (2 ^ 56) (scale (tableOf s)))
 
 -- "at every choice record, reachable or not, each settling of all variables that leads from lo to true also leads from hi to true": at record k
 unfoldable pub isMonotoneAt : Table → ℕ → Bool
@@ -137,7 +152,7 @@ bufferFault size s = placeZero (not (eqb size (choiceCount (tableOf s .variables
 unfoldable pub jobChecks : List Check
 jobChecks = record { number = 10; fault = jobFault } ∷ []
 
--- Those of every service, on the file
+-- Those of every service, on the file; 26 and 27 are "the two checked after 17 and before 18"
 unfoldable pub tableChecks : List Check
 tableChecks =
     record { number = 11; fault = lengthFault }
@@ -147,6 +162,8 @@ tableChecks =
     ∷ record { number = 15; fault = choiceFault }
     ∷ record { number = 16; fault = scaleFault }
     ∷ record { number = 17; fault = recordFault }
+    ∷ record { number = 26; fault = rootFault }
+    ∷ record { number = 27; fault = rewardFault }
     ∷ record { number = 18; fault = monotoneFault }
     ∷ []
 

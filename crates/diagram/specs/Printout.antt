@@ -94,8 +94,8 @@ unfoldable pub programOutcome : List ℕ → Outcome Searching
 programOutcome input =
     checked jobChecks (λ job. jobOutcome (drop 4 job) (jobKits (wordAt job 0)) (fieldR (wordAt job 0))) input
 
--- What the program prints for all that could be read from standard input: "at most 1,265 bytes are read"
+-- What the program prints for all that could be read from standard input: "the program reads 1,329"
 unfoldable pub printout : List ℕ → List ℕ
 printout input =
-    let read = take 1265 input in
+    let read = take 1329 input in
     searchText (tableOf (drop 4 read)) (programOutcome read)

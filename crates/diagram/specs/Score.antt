@@ -1,10 +1,11 @@
--- Document 01, "Scores, drops and passing": walks and the score of a full plan. Source document 000 has the same as its scoring function.
+-- Document 01, "Scores, drops and passing", with document 02, paper 3: walks and the score of a full plan. Source document 000 has the same, of one root, as
+-- its scoring function.
 use Prim.Native.Nat.{ℕ, zero, suc, _+_, _-_, _*_}
 use mathlib.Core.Bool.{Bool, true, false, cond, not, _&&_, _||_}
 use mathlib.Core.List.{List, [], _∷_, _++_, map, tail}
 use lib.ListN.{getD}
 use lib.Dec.{eqb}
-use Rattle.diagram.specs.Table.{Variable, choice, chance, Record, Table, recordAt, root}
+use Rattle.diagram.specs.Table.{Variable, choice, chance, Record, Root, Table, recordAt}
 
 -- An assignment settles the variables: its element i is true where the walk goes hi at position i, and false where it goes lo.
 -- "A walk starts at the root: a choice taken goes hi, left goes lo; a chance that holds goes hi, else lo."
@@ -45,13 +46,19 @@ sum (x ∷ xs) = x + sum xs
 unfoldable pub total : List Variable → List ℕ → (List Bool → Bool) → ℕ
 total vs p test = sum (map (λ s. cond (test s) (weight vs s) 0) (settlings vs p))
 
--- The weighted count of the settlings whose walk from node n ends in true
+-- A root's score: the weighted count of the settlings whose walk from node n ends in true
 unfoldable pub scoreFrom : Table → List ℕ → ℕ → ℕ
 scoreFrom t p n = total (t .variables) p (λ s. truth (t .records) s n)
 
--- "The score of a full plan is the sum, over all settlings of all chances whose walk ends in true, of the product"
+-- The sum, over some roots, of the reward times a number of the root's node
+unfoldable pub rewarded : (ℕ → ℕ) → List Root → ℕ
+rewarded number [] = 0
+rewarded number (r ∷ rs) = r .reward * number (r .node) + rewarded number rs
+
+-- "The score of a full plan is the sum, over all settlings of all chances whose walk ends in true, of the product": that of one root. Paper 3: "The
+-- score is the sum of reward times that root's score"; "a node named twice counts twice".
 unfoldable pub score : Table → List ℕ → ℕ
-score t p = scoreFrom t p (root t)
+score t p = rewarded (scoreFrom t p) (t .roots)
 
 -- Every assignment of v variables
 unfoldable pub assignments : ℕ → List (List Bool)

@@ -1,16 +1,16 @@
 -- Document 01, "Tried at the counter": the twelve starred cases, five of which have another answer since paper 1 of document 02, what else that paper says
--- of certain events, of the printed job and of the filter at every percentage, and lines of several kits (paper 2).
-use Prim.Native.Nat.{ℕ, _+_}
+-- of certain events, of the printed job and of the filter at every percentage, lines of several kits (paper 2), and several roots (paper 3).
+use Prim.Native.Nat.{ℕ, _+_, _*_, _/_, _%_}
 use mathlib.Core.Path.{_≡_, refl}
 use mathlib.Core.List.{List, [], _∷_, _++_, map}
 use lib.ListN.{length, take, drop, replicate}
 use Rattle.diagram.specs.Words.{wordAt}
-use Rattle.diagram.specs.Table.{sequence, variableCount, recordCount, variableOf, recordOf, kitsOf, tableOf, recordAt, root, isChoice, choiceCount, scaleOf, scale}
-use Rattle.diagram.specs.Score.{walk, truth, settlings, weight, sum, total, scoreFrom, score, assignments, every, implies}
+use Rattle.diagram.specs.Table.{sequence, variableCount, recordCount, rootCount, variableOf, recordOf, kitsOf, rootOf, rootsOr, tableOf, recordAt, isChoice, choiceCount, scaleOf, totalReward, scale}
+use Rattle.diagram.specs.Score.{walk, truth, settlings, weight, sum, total, scoreFrom, rewarded, score, assignments, every, implies}
 use Rattle.diagram.specs.Plans.{completions, openTaken, openCount, costOf, cost, isOpen, leaves, upperBound, derivative, derivatives, passes, noneOf, passing, forced, forcedPlan, countOf, forcedCount}
 use Rattle.diagram.specs.Ranking.{takesFirst, ranksBefore, better, firstRanked, isCandidate, select, bestPlan}
 use Rattle.diagram.specs.Visits.{beaten, goesBack, lowestOpen, visit, visited, visitCount}
-use Rattle.diagram.specs.Checks.{placeZero, firstPlace, jobFault, lengthFault, isHeading, headingFault, countFault, isVariableWord, variableFault, choiceFault, scaleFault, positionOf, isChild, isRecordWord, recordFault, isMonotoneAt, monotoneFault, planLengthFault, planMarkFault, fullPlanFault, percentFault, budgetFault, bufferFault, jobChecks, tableChecks, scoreChecks, sweepChecks, filterChecks, searchChecks}
+use Rattle.diagram.specs.Checks.{placeZero, firstPlace, jobFault, lengthFault, isHeading, headingFault, countFault, isVariableWord, variableFault, choiceFault, scaleFault, positionOf, isChild, isRecordWord, recordFault, isRootWord, rootFault, rewardFault, isMonotoneAt, monotoneFault, planLengthFault, planMarkFault, fullPlanFault, percentFault, budgetFault, bufferFault, jobChecks, tableChecks, scoreChecks, sweepChecks, filterChecks, searchChecks}
 use Rattle.diagram.specs.Services.{Outcome, refused, answered}
 use Rattle.diagram.specs.Services.{checked, written, reading, readOutcome, scoreOutcome, sweepOutcome, sweepBuffer, filtering, filterOutcome, filterBuffer, searching, searchOutcome, searchBuffer}
 use Rattle.diagram.specs.Printout.{digits, decimal, refusedWord, choicesWord, scaleWord, kitsWord, scoreWord, visitsWord, takeWord, leftWord, line, markLines, refusalText, planText, searchText, jobOutcome, jobKits, programOutcome, printout}
@@ -61,6 +61,51 @@ twoWays less =
     ∷ 0x40 ∷ 0x40 ∷ 0x10 ∷ 0x00
     ∷ 0x40 ∷ 0x00 ∷ 0x08 ∷ 0x03
     ∷ []
+
+-- A root word of kind 6 with P 0 and R below 256
+unfoldable pub rootWord : (reward node : ℕ) → List ℕ
+rootWord reward node = 0x60 ∷ reward / 32 ∷ 8 * (reward % 32) ∷ node ∷ []
+
+-- Table A with some root words, of which the heading says that they are so many
+unfoldable pub rootedA : (count : ℕ) → List ℕ → List ℕ
+rootedA count words = 0x11 ∷ 0x00 ∷ 0x20 ∷ count ∷ drop 4 tableA ++ words
+
+-- Table A with two roots: its own, node 5, with reward 3, and node 3, which is line 1 and event 3, with reward 1
+unfoldable pub twoRoots : List ℕ
+twoRoots = rootedA 2 (rootWord 3 5 ++ rootWord 1 3)
+
+-- 15 root words of reward 64 for node 5, then one of reward 1 for node 3
+unfoldable pub sixteen : List ℕ
+sixteen =
+    rootWord 64 5 ++ rootWord 64 5 ++ rootWord 64 5 ++ rootWord 64 5 ++ rootWord 64 5 ++ rootWord 64 5 ++ rootWord 64 5 ++ rootWord 64 5
+    ++ rootWord 64 5 ++ rootWord 64 5 ++ rootWord 64 5 ++ rootWord 64 5 ++ rootWord 64 5 ++ rootWord 64 5 ++ rootWord 64 5 ++ rootWord 1 3
+
+-- One line and seven events of 0/256, so that the product of b is 2^56, with one record, of the line, and some root words, of which the heading says that they
+-- are so many
+unfoldable pub widest : (only : List ℕ) → (count : ℕ) → List ℕ → List ℕ
+widest only count words =
+    0x12 ∷ 0x00 ∷ 0x08 ∷ count
+    ∷ 0x20 ∷ 0x00 ∷ 0x00 ∷ 0x00
+    ∷ 0x30 ∷ 0x40 ∷ 0x01 ∷ 0x00
+    ∷ 0x30 ∷ 0x80 ∷ 0x01 ∷ 0x00
+    ∷ 0x30 ∷ 0xC0 ∷ 0x01 ∷ 0x00
+    ∷ 0x31 ∷ 0x00 ∷ 0x01 ∷ 0x00
+    ∷ 0x31 ∷ 0x40 ∷ 0x01 ∷ 0x00
+    ∷ 0x31 ∷ 0x80 ∷ 0x01 ∷ 0x00
+    ∷ 0x31 ∷ 0xC0 ∷ 0x01 ∷ 0x00
+    ∷ only ++ words
+
+-- A record of the line that is true where it is taken
+unfoldable pub rises : List ℕ
+rises = 0x40 ∷ 0x00 ∷ 0x08 ∷ 0x00 ∷ []
+
+-- One that is true where the line is left, which is not monotone
+unfoldable pub falls : List ℕ
+falls = 0x40 ∷ 0x00 ∷ 0x00 ∷ 0x01 ∷ []
+
+-- One that is its own child, node 2
+unfoldable pub ownChild : List ℕ
+ownChild = 0x40 ∷ 0x00 ∷ 0x10 ∷ 0x00 ∷ []
 
 -- A request to a service, with a buffer of the plan's size; `printed` is the program on its input
 pub data Request : Type 0 where
@@ -133,15 +178,20 @@ starred =
     }
     ∷ []
 
--- What the program prints of table A where one kit takes line 1, with the visits, a digit, given apart: choices 2 scale 20, kits 1 score 12 visits .., 0 left,
--- 1 take
-unfoldable pub lineOne : (visits : ℕ) → List ℕ
-lineOne visits =
-    99 ∷ 104 ∷ 111 ∷ 105 ∷ 99 ∷ 101 ∷ 115 ∷ 32 ∷ 50 ∷ 32 ∷ 115 ∷ 99 ∷ 97 ∷ 108 ∷ 101 ∷ 32 ∷ 50 ∷ 48 ∷ 10
-    ∷ 107 ∷ 105 ∷ 116 ∷ 115 ∷ 32 ∷ 49 ∷ 32 ∷ 115 ∷ 99 ∷ 111 ∷ 114 ∷ 101 ∷ 32 ∷ 49 ∷ 50 ∷ 32 ∷ 118 ∷ 105 ∷ 115 ∷ 105 ∷ 116 ∷ 115 ∷ 32 ∷ (48 + visits) ∷ 10
+-- What the program prints of table A where one kit takes line 1, with the digits of B and of the score and the visits, a digit, given apart: choices 2
+-- scale .., kits 1 score .. visits .., 0 left, 1 take
+unfoldable pub lineOneOf : (scale score : List ℕ) → (visits : ℕ) → List ℕ
+lineOneOf scale score visits =
+    99 ∷ 104 ∷ 111 ∷ 105 ∷ 99 ∷ 101 ∷ 115 ∷ 32 ∷ 50 ∷ 32 ∷ 115 ∷ 99 ∷ 97 ∷ 108 ∷ 101 ∷ 32 ∷ scale
+    ++ 10 ∷ 107 ∷ 105 ∷ 116 ∷ 115 ∷ 32 ∷ 49 ∷ 32 ∷ 115 ∷ 99 ∷ 111 ∷ 114 ∷ 101 ∷ 32 ∷ score
+    ++ 32 ∷ 118 ∷ 105 ∷ 115 ∷ 105 ∷ 116 ∷ 115 ∷ 32 ∷ (48 + visits) ∷ 10
     ∷ 48 ∷ 32 ∷ 108 ∷ 101 ∷ 102 ∷ 116 ∷ 10
     ∷ 49 ∷ 32 ∷ 116 ∷ 97 ∷ 107 ∷ 101 ∷ 10
     ∷ []
+
+-- The same with table A's own B, and line 1's score
+unfoldable pub lineOne : (visits : ℕ) → List ℕ
+lineOne visits = lineOneOf (50 ∷ 48 ∷ []) (49 ∷ 50 ∷ []) visits
 
 -- Paper 1 of document 02
 unfoldable pub paper1 : List Case
@@ -212,6 +262,88 @@ paper2 =
     }
     ∷ []
 
+-- refused 11 0 or refused 12 0, with the second digit of the number given apart
+unfoldable pub refusedOne : (digit : ℕ) → List ℕ
+refusedOne digit = 114 ∷ 101 ∷ 102 ∷ 117 ∷ 115 ∷ 101 ∷ 100 ∷ 32 ∷ 49 ∷ digit ∷ 32 ∷ 48 ∷ 10 ∷ []
+
+-- Paper 3 of document 02
+unfoldable pub paper3 : List Case
+paper3 =
+    -- "The score is the sum of reward times that root's score": node 3 scores 12 of 20 where line 1 is taken and 0 where it is left, node 5 as in table A
+    record {
+      requests = scored twoRoots (2 ∷ 2 ∷ []) ∷ scored twoRoots (1 ∷ 2 ∷ []) ∷ scored twoRoots (2 ∷ 1 ∷ []) ∷ scored twoRoots (1 ∷ 1 ∷ []) ∷ [];
+      answers = answered (0 ∷ []) ∷ answered (30 ∷ []) ∷ answered (48 ∷ []) ∷ answered (60 ∷ []) ∷ [];
+    }
+    -- "B is multiplied by the total reward": 4 times 20. Top and drops "speak of the sum"
+    ∷ record { requests = read twoRoots ∷ swept twoRoots allOpen ∷ []; answers = answered (4 ∷ 4 ∷ 2 ∷ 80 ∷ []) ∷ answered (60 ∷ 12 ∷ 30 ∷ []) ∷ [] }
+    -- so do forced lines: 37 percent of 80 are 29.6, 38 are 30.4, 60 are 48, 61 are 48.8, 75 are 60
+    ∷ record {
+      requests = filtered twoRoots allOpen 37 ∷ filtered twoRoots allOpen 38 ∷ filtered twoRoots allOpen 60 ∷ [];
+      answers = answered (0 ∷ 0 ∷ 0 ∷ []) ∷ answered (1 ∷ 0 ∷ 1 ∷ []) ∷ answered (1 ∷ 0 ∷ 1 ∷ []) ∷ [];
+    }
+    ∷ record {
+      requests = filtered twoRoots allOpen 61 ∷ filtered twoRoots allOpen 75 ∷ filtered twoRoots allOpen 76 ∷ [];
+      answers = answered (2 ∷ 1 ∷ 1 ∷ []) ∷ answered (2 ∷ 1 ∷ 1 ∷ []) ∷ refused 31 0 ∷ [];
+    }
+    -- and the best plan
+    ∷ record {
+      requests = searched twoRoots allOpen 2 50 ∷ searched twoRoots allOpen 1 50 ∷ searched twoRoots allOpen 1 61 ∷ [];
+      answers = answered (60 ∷ 1 ∷ 1 ∷ []) ∷ answered (48 ∷ 2 ∷ 1 ∷ []) ∷ refused 32 0 ∷ [];
+    }
+    -- the printed B is this B; the visits, - -, T -, T T, L - and L T, are counted by hand
+    ∷ record { requests = printed (0x50 ∷ 0x40 ∷ 0x00 ∷ 0x32 ∷ twoRoots) ∷ []; answers = answered (lineOneOf (56 ∷ 48 ∷ []) (52 ∷ 56 ∷ []) 5) ∷ [] }
+    -- "a node named twice counts twice"; the order of the words does not matter
+    ∷ record {
+      requests = read (rootedA 3 (rootWord 1 5 ++ rootWord 1 3 ++ rootWord 2 5)) ∷ swept (rootedA 3 (rootWord 1 5 ++ rootWord 1 3 ++ rootWord 2 5)) allOpen ∷ [];
+      answers = answered (4 ∷ 4 ∷ 2 ∷ 80 ∷ []) ∷ answered (60 ∷ 12 ∷ 30 ∷ []) ∷ [];
+    }
+    -- "With no root words the last record is the root with reward 1"
+    ∷ record {
+      requests = read (rootedA 1 (rootWord 1 5)) ∷ swept (rootedA 1 (rootWord 1 5)) allOpen ∷ [];
+      answers = answered (4 ∷ 4 ∷ 2 ∷ 20 ∷ []) ∷ answered (16 ∷ 4 ∷ 6 ∷ []) ∷ [];
+    }
+    -- roots below lines: node 2 is event 3 alone, and node 4 is event 1, or line 1 and event 3; 64 times 20 are 1,280
+    ∷ record {
+      requests = swept (rootedA 1 (rootWord 1 2)) allOpen ∷ read (rootedA 1 (rootWord 64 4)) ∷ swept (rootedA 1 (rootWord 64 4)) allOpen ∷ [];
+      answers = answered (12 ∷ 0 ∷ 0 ∷ []) ∷ answered (4 ∷ 4 ∷ 2 ∷ 1280 ∷ []) ∷ answered (1024 ∷ 0 ∷ 384 ∷ []) ∷ [];
+    }
+    -- 16 root words, of which every one counts: 961 times 20 are 19,220
+    ∷ record {
+      requests = read (rootedA 16 sixteen) ∷ swept (rootedA 16 sixteen) allOpen ∷ [];
+      answers = answered (4 ∷ 4 ∷ 2 ∷ 19220 ∷ []) ∷ answered (15372 ∷ 3840 ∷ 5772 ∷ []) ∷ [];
+    }
+    -- "the program reads 1,329": with the job word, 1,324 bytes of table and one more
+    ∷ record {
+      requests = printed (0x50 ∷ 0x40 ∷ 0x00 ∷ 0x32 ∷ replicate 1324 0) ∷ printed (0x50 ∷ 0x40 ∷ 0x00 ∷ 0x32 ∷ replicate 1325 0) ∷ [];
+      answers = answered (refusedOne 50) ∷ answered (refusedOne 49) ∷ [];
+    }
+    -- "Refusal 11 allows 1,324 bytes", "12 comes for R above 16, 13 counts root words"
+    ∷ record { requests = read (replicate 1328 0) ∷ read (replicate 1324 0) ∷ []; answers = refused 11 0 ∷ refused 12 0 ∷ [] }
+    ∷ record {
+      requests = read (rootedA 17 []) ∷ read (rootedA 16 []) ∷ read (rootedA 1 []) ∷ read (rootedA 1 (rootWord 1 5 ++ rootWord 1 5)) ∷ [];
+      answers = refused 12 0 ∷ refused 13 0 ∷ refused 13 0 ∷ refused 13 0 ∷ [];
+    }
+    -- "26 is the first wrong root word (its place)": its kind, P, reward and node
+    ∷ record {
+      requests = read (rootedA 1 (0x50 ∷ 0x00 ∷ 0x08 ∷ 0x05 ∷ [])) ∷ read (rootedA 1 (0x70 ∷ 0x00 ∷ 0x08 ∷ 0x05 ∷ [])) ∷ read (rootedA 1 (0x60 ∷ 0x40 ∷ 0x08 ∷ 0x05 ∷ [])) ∷ read (rootedA 1 (rootWord 0 5)) ∷ read (rootedA 1 (rootWord 65 5)) ∷ [];
+      answers = refused 26 9 ∷ refused 26 9 ∷ refused 26 9 ∷ refused 26 9 ∷ refused 26 9 ∷ [];
+    }
+    ∷ record {
+      requests = read (rootedA 1 (rootWord 1 0)) ∷ read (rootedA 1 (rootWord 1 1)) ∷ read (rootedA 1 (rootWord 1 6)) ∷ read (rootedA 3 (rootWord 1 5 ++ rootWord 0 5 ++ rootWord 1 6)) ∷ [];
+      answers = refused 26 9 ∷ refused 26 9 ∷ refused 26 9 ∷ refused 26 10 ∷ [];
+    }
+    -- "27 means B times the total reward is above 2^56 (place 0)"
+    ∷ record {
+      requests = read (widest rises 1 (rootWord 1 2)) ∷ read (widest rises 1 (rootWord 2 2)) ∷ read (widest rises 2 (rootWord 1 2 ++ rootWord 1 2)) ∷ [];
+      answers = answered (8 ∷ 1 ∷ 1 ∷ 72057594037927936 ∷ []) ∷ refused 27 0 ∷ refused 27 0 ∷ [];
+    }
+    -- "the two checked after 17 and before 18"
+    ∷ record {
+      requests = read (widest ownChild 1 (rootWord 65 2)) ∷ read (widest falls 1 (rootWord 65 2)) ∷ read (widest falls 1 (rootWord 64 2)) ∷ read (widest falls 1 (rootWord 1 2)) ∷ [];
+      answers = refused 17 9 ∷ refused 26 10 ∷ refused 27 0 ∷ refused 18 9 ∷ [];
+    }
+    ∷ []
+
 -- The starred cases are twelve
 pub twelve : length starred ≡ 12
 unfolding starred
@@ -222,11 +354,11 @@ unfoldable pub AllHold : List Case → Type 0
 AllHold [] = Unit {0}
 AllHold (c ∷ cs) = (map answerTo (c .requests) ≡ c .answers) × AllHold cs
 
--- The cases of document 01, and of papers 1 and 2 of document 02, hold: each is computed
-pub starredHold : AllHold (starred ++ paper1 ++ paper2)
-unfolding AllHold starred paper1 paper2 lineOne bothLines tooManyKits answerTo tableA certainA river0 river1 twoWays tableB allOpen numbers wordAt sequence variableCount recordCount variableOf recordOf kitsOf tableOf recordAt root isChoice choiceCount scaleOf scale walk truth settlings weight sum total scoreFrom score assignments every implies completions openTaken openCount costOf cost isOpen leaves upperBound derivative derivatives passes noneOf passing forced forcedPlan countOf forcedCount takesFirst ranksBefore better firstRanked isCandidate select bestPlan beaten goesBack lowestOpen visit visited visitCount placeZero firstPlace jobFault lengthFault isHeading headingFault countFault isVariableWord variableFault choiceFault scaleFault positionOf isChild isRecordWord recordFault isMonotoneAt monotoneFault planLengthFault planMarkFault fullPlanFault percentFault budgetFault bufferFault jobChecks tableChecks scoreChecks sweepChecks filterChecks searchChecks checked written reading readOutcome scoreOutcome sweepOutcome sweepBuffer filtering filterOutcome filterBuffer searching searchOutcome searchBuffer digits decimal refusedWord choicesWord scaleWord kitsWord scoreWord visitsWord takeWord leftWord line markLines refusalText planText searchText jobOutcome jobKits programOutcome printout
+-- The cases of document 01, and of papers 1, 2 and 3 of document 02, hold: each is computed
+pub starredHold : AllHold (starred ++ paper1 ++ paper2 ++ paper3)
+unfolding AllHold starred paper1 paper2 paper3 lineOneOf lineOne bothLines tooManyKits refusedOne answerTo tableA certainA river0 river1 twoWays tableB rootWord rootedA twoRoots sixteen widest rises falls ownChild allOpen numbers wordAt sequence variableCount recordCount rootCount variableOf recordOf kitsOf rootOf rootsOr tableOf recordAt isChoice choiceCount scaleOf totalReward scale walk truth settlings weight sum total scoreFrom rewarded score assignments every implies completions openTaken openCount costOf cost isOpen leaves upperBound derivative derivatives passes noneOf passing forced forcedPlan countOf forcedCount takesFirst ranksBefore better firstRanked isCandidate select bestPlan beaten goesBack lowestOpen visit visited visitCount placeZero firstPlace jobFault lengthFault isHeading headingFault countFault isVariableWord variableFault choiceFault scaleFault positionOf isChild isRecordWord recordFault isRootWord rootFault rewardFault isMonotoneAt monotoneFault planLengthFault planMarkFault fullPlanFault percentFault budgetFault bufferFault jobChecks tableChecks scoreChecks sweepChecks filterChecks searchChecks checked written reading readOutcome scoreOutcome sweepOutcome sweepBuffer filtering filterOutcome filterBuffer searching searchOutcome searchBuffer digits decimal refusedWord choicesWord scaleWord kitsWord scoreWord visitsWord takeWord leftWord line markLines refusalText planText searchText jobOutcome jobKits programOutcome printout
 starredHold =
-    (refl, (refl, (refl, (refl, (refl, (refl, (refl, (refl, (refl, (refl, (refl, (refl, (refl, (refl, (refl, (refl, (refl, (refl, (refl, (refl, (refl, (refl, (refl, (refl, (refl, tt)))))))))))))))))))))))))
+    (refl, (refl, (refl, (refl, (refl, (refl, (refl, (refl, (refl, (refl, (refl, (refl, (refl, (refl, (refl, (refl, (refl, (refl, (refl, (refl, (refl, (refl, (refl, (refl, (refl, (refl, (refl, (refl, (refl, (refl, (refl, (refl, (refl, (refl, (refl, (refl, (refl, (refl, (refl, (refl, (refl, (refl, tt))))))))))))))))))))))))))))))))))))))))))
 
 -- What the filter answers for table A at 0, 1 .. 100 percent. Paper 1: "50 forces nothing; 60 forces line 1 only; 80 forces both; 31 first comes at 81"
 unfoldable pub everyPercentage : List (Outcome (List ℕ))
@@ -237,5 +369,5 @@ everyPercentage =
     ++ replicate 20 (refused 31 0)
 
 pub percentagesHold : map answerTo (sequence (filtered tableA allOpen) 0 101) ≡ everyPercentage
-unfolding everyPercentage answerTo tableA allOpen numbers wordAt sequence variableCount recordCount variableOf recordOf kitsOf tableOf recordAt root isChoice choiceCount scaleOf scale walk truth settlings weight sum total scoreFrom score assignments every implies completions isOpen leaves passes noneOf passing forced forcedPlan countOf forcedCount placeZero firstPlace lengthFault isHeading headingFault countFault isVariableWord variableFault choiceFault scaleFault positionOf isChild isRecordWord recordFault isMonotoneAt monotoneFault planLengthFault planMarkFault percentFault bufferFault tableChecks filterChecks checked reading filtering filterOutcome
+unfolding everyPercentage answerTo tableA allOpen numbers wordAt sequence variableCount recordCount rootCount variableOf recordOf kitsOf rootOf rootsOr tableOf recordAt isChoice choiceCount scaleOf totalReward scale walk truth settlings weight sum total scoreFrom rewarded score assignments every implies completions isOpen leaves passes noneOf passing forced forcedPlan countOf forcedCount placeZero firstPlace lengthFault isHeading headingFault countFault isVariableWord variableFault choiceFault scaleFault positionOf isChild isRecordWord recordFault isRootWord rootFault rewardFault isMonotoneAt monotoneFault planLengthFault planMarkFault percentFault bufferFault tableChecks filterChecks checked reading filtering filterOutcome
 percentagesHold = refl

@@ -6,17 +6,12 @@ use native.Mathlib.Numerals.{add-one}
 use native.Mathlib.Omega.{arith}
 use mathlib.Core.Path.{_≡_, refl, ap, sym, _∙_}
 use mathlib.Core.List.{List, [], _∷_}
-use lib.ListN.{length, getD, set, take, replicate, length-set}
+use lib.ListN.{length, getD, set, replicate, length-set}
 use lib.Seq.{take-all, take-suc-set, getD-take}
 use Rattle.diagram.specs.Table.{Record, sequence, recordAt}
 use Rattle.diagram.specs.Checks.{positionOf}
 use Rattle.diagram.proofs.Places.{sequence-at, sequence-snoc}
-use Rattle.implication.specs.Nodes.{Placed}
-
--- the two ends' cells and those of the first k records
-pub record Filled (end : ℕ) (f : ℕ → ℕ) (cells : List ℕ) (k : ℕ) : Type 0 where
-  pub size : length cells ≡ 256
-  pub front : take (k + 2) cells ≡ end ∷ end ∷ sequence f 0 k
+use Rattle.implication.specs.Nodes.{Filled, Placed}
 
 pub fill-ends : {end : ℕ} {f : ℕ → ℕ} {cells : List ℕ} (before : List ℕ) (x : ℕ) → length before ≡ 256 → cells ≡ set (set before 0 x) 1 x → x ≡ end → Filled end f cells 0
 unfolding sequence

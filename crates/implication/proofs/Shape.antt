@@ -1,19 +1,18 @@
 -- What the checks 12, 13 and 17 say of a file's heading and records, and what a file's words are past its end.
 -- Assumes nothing.
-use Prim.Native.Nat.{ℕ, _+_, _-_, _*_, _/_, _≤_, _<_}
+use Prim.Native.Nat.{ℕ, _+_, _-_, _≤_, _<_}
 use native.Mathlib.Decide.{decLt}
 use native.Mathlib.Omega.{arith}
-use mathlib.Core.Path.{_≡_, refl, ap, sym, _∙_}
+use mathlib.Core.Path.{_≡_, refl, sym, _∙_}
 use mathlib.Core.Bool.{Bool, true, false, not, _&&_}
 use mathlib.Core.Logic.{by-cases}
 use mathlib.Core.Option.{none}
 use mathlib.Core.List.{List}
-use lib.ListN.{length}
 use lib.Dec.{eqb, ltb, leb}
-use borrow.Author.Tests.{ltb-true, leb-true, eqb-true, le-ltb, not-false}
+use borrow.Author.Tests.{ltb-true, leb-true, not-false}
 use Rattle.diagram.specs.Words.{wordAt, kind, fieldP, fieldQ, fieldR}
-use Rattle.diagram.specs.Table.{Record, recordAt, recordOf, tableOf, variableCount, recordCount}
-use Rattle.diagram.specs.Checks.{placeZero, headingFault, countFault, recordFault, isHeading, isChild, isRecordWord, positionOf}
+use Rattle.diagram.specs.Table.{Record, recordAt, recordOf, tableOf, variableCount, recordCount, rootCount}
+use Rattle.diagram.specs.Checks.{placeZero, headingFault, recordFault, isHeading, isChild, isRecordWord, positionOf}
 use Rattle.diagram.proofs.Places.{sequence-at, sequence-past, none-at}
 use Rattle.diagram.proofs.Every.{both}
 use Rattle.diagram.proofs.Truth.{Formed}
@@ -43,21 +42,14 @@ heading-ranges s h =
 pub heading-variables : (s : List ℕ) → headingFault s ≡ none → (1 ≤ variableCount s) × (variableCount s ≤ 60)
 heading-variables s h = heading-ranges s h .0
 
+pub heading-roots : (s : List ℕ) → headingFault s ≡ none → rootCount s ≤ 16
+unfolding headingFault isHeading rootCount
+heading-roots s h =
+    let w = wordAt s 0 in
+    leb-true _ 16 (both (eqb (kind w) 1 && (leb 1 (fieldP w) && leb (fieldP w) 60) && (leb 1 (fieldQ w) && leb (fieldQ w) 254)) (none-passes (isHeading w) h) .1)
+
 pub heading-records : (s : List ℕ) → headingFault s ≡ none → (1 ≤ recordCount s) × (recordCount s ≤ 254)
 heading-records s h = heading-ranges s h .1
-
--- ---------------------------------------------------------------------------
--- Words past the end
-
-pub word-past : (s : List ℕ) (i : ℕ) → length s ≤ 4 * i → wordAt s i ≡ 0
-unfolding wordAt
-word-past s i h = simp (le-ltb i (length s / 4) (omega arith))
-
-pub shaped-word-past : (s : List ℕ) → countFault s ≡ none → (k : ℕ) → recordCount s ≤ k → wordAt s (1 + variableCount s + k) ≡ 0
-unfolding countFault
-shaped-word-past s h k l =
-    let e = eqb-true (length s) (4 * (1 + variableCount s + recordCount s)) (none-passes _ h) in
-    word-past s (1 + variableCount s + k) (omega arith)
 
 -- ---------------------------------------------------------------------------
 -- Records
@@ -69,14 +61,6 @@ record-at-word s k h = sequence-at (λ i. recordOf (wordAt s i)) (1 + variableCo
 pub record-past : (s : List ℕ) (k : ℕ) → recordCount s ≤ k → recordAt (tableOf s .records) k ≡ record { position = 0; hi = 0; lo = 0 }
 unfolding recordAt tableOf
 record-past s k h = sequence-past (λ i. recordOf (wordAt s i)) (1 + variableCount s) (recordCount s) k _ h
-
--- past the last record the word is 0 and the record is of zeros, so a record is its word's everywhere
-pub shaped-record-at : (s : List ℕ) → countFault s ≡ none → (k : ℕ) → recordAt (tableOf s .records) k ≡ recordOf (wordAt s (1 + variableCount s + k))
-unfolding recordOf
-shaped-record-at s h k =
-    by-cases (decLt k (recordCount s))
-    (λ l. record-at-word s k l)
-    (λ l. let past : recordCount s ≤ k = omega arith in record-past s k past ∙ sym (ap recordOf (shaped-word-past s h k past)))
 
 -- a child of record k, which stands at position p: it has a smaller number and stands at a larger position
 abbrev Child : ℕ → List Record → (k p n : ℕ) → Type 0

@@ -5,7 +5,7 @@ use mathlib.Core.Bool.{Bool, true, false, cond}
 use mathlib.Core.Logic.{_⊎_}
 use mathlib.Core.Option.{none}
 use mathlib.Core.List.{List, _∷_}
-use lib.ListN.{length, getD}
+use lib.ListN.{length, getD, take}
 use lib.Dec.{eqb, leb}
 use Rattle.diagram.specs.Table.{Record, sequence, recordAt, tableOf, variableCount}
 use Rattle.diagram.specs.Score.{implies}
@@ -15,6 +15,11 @@ use Rattle.diagram.proofs.Truth.{Formed}
 -- One part of every record, at its node's number, with `end` for the two ends. There are 256 nodes at most.
 unfoldable pub column : ℕ → (Record → ℕ) → List Record → List ℕ
 column end part rs = end ∷ end ∷ sequence (λ k. part (recordAt rs k)) 0 254
+
+-- An array has `end` for the two ends, and one part of the first k records
+pub record Filled (end : ℕ) (part : ℕ → ℕ) (cells : List ℕ) (k : ℕ) : Type 0 where
+  pub size : length cells ≡ 256
+  pub front : take (k + 2) cells ≡ end ∷ end ∷ sequence part 0 k
 
 -- The records that three such arrays hold
 unfoldable pub recordsOf : (positions high low : List ℕ) → List Record

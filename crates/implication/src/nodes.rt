@@ -1,4 +1,5 @@
 // The records of a table in arrays by node number, one for each part of a record.
+use crate::words::record_count;
 use crate::words::variable_count;
 use diagram::Node;
 use diagram::Position;
@@ -7,10 +8,10 @@ use diagram::field_q;
 use diagram::field_r;
 use diagram::word_at;
 ghost use mathlib.Core.Path.{_≡_};
-ghost use Prim.Native.Nat.{_+_, _<_};
+ghost use Prim.Native.Nat.{ℕ, _+_, _≤_, _<_};
 ghost use lib.ListN.{length, getD, set};
 ghost use Rattle.diagram.specs.Table.{Record, tableOf, variableCount};
-ghost use Rattle.implication.specs.Nodes.{column, Shaped};
+ghost use Rattle.implication.specs.Nodes.{column, Filled, Shaped};
 
 // Copies the records of a file that the checks 11 to 17 let through, and marks the ends' position. The lengths are the
 // arrays' own.
@@ -21,16 +22,33 @@ pub fn decode(file: &[u8], positions: &mut [u8; 256], high: &mut [u8; 256], low:
     ensures high { λ _. ⌜ now (high .exit) ≡ column 0 (λ (r : Record). r .hi) (tableOf (now (file .entry)) .records) ⌝ }
     ensures low { λ _. ⌜ now (low .exit) ≡ column 0 (λ (r : Record). r .lo) (tableOf (now (file .entry)) .records) ⌝ }
 {
+    let n = record_count(file);
     let v = variable_count(file);
     set_ends(positions, v);
     set_ends(high, 0);
     set_ends(low, 0);
     let mut k = 0;
-    while k < 254 {
+    while k < n {
         let w = word_at(file, 1 + v as usize + k);
         store(positions, k, field_p(w));
         store(high, k, field_q(w));
         store(low, k, field_r(w));
+        k += 1;
+    }
+    clear(positions, n);
+    clear(high, n);
+    clear(low, n);
+}
+
+// Writes zeros to the cells of the records from n on, of which there are none: an array that holds a part of the first n records
+// then holds it of all that it has room for.
+fn clear(cells: &mut [u8; 256], n: usize)
+    requires { ⌜ (n ≤ 254) × (length (now cells) ≡ 256) ⌝ }
+    ensures { λ _. ⌜ ((end : ℕ) (part : ℕ → ℕ) → Filled end part (now (cells .entry)) n → ((k : ℕ) → n ≤ k → part k ≡ 0) → Filled end part (now (cells .exit)) 254) ⌝ }
+{
+    let mut k = n;
+    while k < 254 {
+        cells[k + 2] = 0;
         k += 1;
     }
 }

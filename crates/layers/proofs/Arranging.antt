@@ -8,15 +8,19 @@ use mathlib.Core.List.{List}
 use lib.ListN.{length, getD, take, replicate}
 use lib.Dec.{eqb}
 use borrow.Author.Tests.{eqb-true, eq-eqb}
-use Rattle.diagram.specs.Table.{Table, sequence, recordAt, root, isChoice, choiceCount}
+use Rattle.diagram.specs.Table.{Table, sequence, recordAt, isChoice, choiceCount}
 use Rattle.diagram.specs.Plans.{openTaken, isOpen}
 use Rattle.diagram.proofs.Every.{and-true-both}
 use Rattle.diagram.proofs.Rising.{Monotone}
-use Rattle.scoring.specs.Value.{place, value, variableAt, markAt, lowArc}
-use Rattle.scoring.specs.Passes.{over, markOf, highInForce, markAtNode, Marked}
+use Rattle.scoring.specs.declared.roots.Roots.{Roots}
+use Rattle.scoring.specs.Value.{place, value, gap, variableAt, markAt, lowArc}
+use Rattle.scoring.specs.Passes.{over, markOf, highInForce, markAtNode, RootsHeld, Marked}
 use Rattle.scoring.proofs.Over.{over-sequence-at}
 use Rattle.scoring.proofs.Passing.{mark-at-node}
+use Rattle.reading.specs.Roots.{rootAt}
+use Rattle.sweep.specs.Down.{rootWeight}
 use Rattle.sweep.specs.Drops.{isOf}
+use Rattle.sweep.proofs.RootWeights.{held-rooted}
 use Rattle.sweep.proofs.Leaving.{mark-number, open-gains}
 use Rattle.sweep.proofs.Deriving.{open-zero, high-is, low-is, mark-open, value-fits}
 use Rattle.layers.specs.Weights.{into}
@@ -45,7 +49,7 @@ into-same high low a b a′ b′ c (suc n) f g =
     let second = cond-same (low n) c (b n) (b′ n) (g n (omega arith)) in
     omega (arith, rest, first, second)
 
-module _ {t : Table} {s : List ℕ} {n : ℕ} {ps hs ls ha la ms : List ℕ} (marked : Marked t s n ps hs ls ha la ms) (monotone : Monotone t) (some : 1 ≤ n) {order : List ℕ} (eo : order ≡ placed (replicate 1024 0) 0 (joined (nodesAt ps n) (length (t .variables)))) where
+module _ {t : Table} {s : List ℕ} {n : ℕ} {ps hs ls ha la ms : List ℕ} (marked : Marked t s n ps hs ls ha la ms) (monotone : Monotone t) (some : 1 ≤ n) {rs : Roots} (entering : RootsHeld t rs) {order : List ℕ} (eo : order ≡ placed (replicate 1040 0) 0 (joined (nodesAt ps n) (length (t .variables)))) where
   few : length (t .records) ≤ 254
   few = omega (arith, marked .size)
 
@@ -53,7 +57,7 @@ module _ {t : Table} {s : List ℕ} {n : ℕ} {ps hs ls ha la ms : List ℕ} (ma
   same = sym (marked .size .0)
 
   -- the order, by the table's own number of records
-  order-is : order ≡ placed (replicate 1024 0) 0 (joined (nodesAt ps (length (t .records))) (length (t .variables)))
+  order-is : order ≡ placed (replicate 1040 0) 0 (joined (nodesAt ps (length (t .records))) (length (t .variables)))
   order-is = rw same eo
 
   -- the node at rank i
@@ -75,8 +79,8 @@ module _ {t : Table} {s : List ℕ} {n : ℕ} {ps hs ls ha la ms : List ℕ} (ma
   ranked i k h l = order-earlier t (marked .formed) few (marked .few) (marked .positions) order-is refl i k (rw same h) (rw same l)
 
   -- all arcs into nodes find room
-  pub room-for-arcs : length (arcsInOrder hs ls order n n) ≤ 1024
-  room-for-arcs = rw same at (arcs-room t (marked .formed) few (marked .few) (marked .positions) order-is refl hs ls)
+  pub room-for-arcs : length (arcsInOrder hs ls rs order n n) ≤ 1040
+  room-for-arcs = rw same at (arcs-room t (marked .formed) few (marked .few) (marked .positions) order-is refl hs ls rs (entering .few))
 
   -- the weights of record k's arcs during the search
   high-at : (k : ℕ) → k < n → highInForce (markAtNode ps ms k) (getD ha (k + 2) 0) ≡ highAt t s k
@@ -120,23 +124,20 @@ module _ {t : Table} {s : List ℕ} {n : ℕ} {ps hs ls ha la ms : List ℕ} (ma
     unfolding lossOf
     loses k h c o = rw (mark-zero k h c o, low-value k h, own-at k h) refl
 
-    module _ {l : Layers} (laid : Laid n ps hs ls ha la ms order l) where
-      module _ (cells : List ℕ) where
-        -- what the root's own arc brings
-        root-brings : (c : ℕ) → cond (eqb c (n + 1)) (getD cells (getD (laid .numbers) 1 0) 0 * getD (laid .weights) 1 0) 0 ≡ cond (eqb c (root t)) (getD cells 1 0) 0
-        unfolding root
-        root-brings c =
-            let one : getD cells 1 0 * 1 ≡ getD cells 1 0 = omega arith in
-            rw (laid .weighed .root, laid .numbered .root, one, same) refl
+    module _ {l : Layers} (laid : Laid n rs ps hs ls ha la ms order l) where
+      module _ (cells : List ℕ) (one : getD cells 1 0 ≡ 1) where
+        -- what a root's arc brings, from the cell that has 1
+        root-brings : (k : ℕ) → k < rs .count → getD cells (getD (laid .numbers) (k + 514) 0) 0 * getD (laid .weights) (k + 514) 0 ≡ rootAt (t .roots) k .reward * gap t 0 (place t (rootAt (t .roots) k .node))
+        root-brings k h = rw (laid .brought k h, laid .numbered .roots k (omega (arith, entering .few)), one, entering .held .weight k h) (omega arith)
 
         -- what comes to a node, by the numbers of the records' arcs
-        inflow-numbers : (i : ℕ) → i < n → inflow l cells i ≡ cond (eqb (getD order i 0) (root t)) (getD cells 1 0) 0 + into (λ k. recordAt (t .records) k .hi) (λ k. recordAt (t .records) k .lo) (λ k. getD cells (getD (laid .numbers) (k + 2) 0) 0 * highAt t s k) (λ k. getD cells (getD (laid .numbers) (k + 258) 0) 0 * lowAt t s k) (getD order i 0) n
+        inflow-numbers : (i : ℕ) → i < n → inflow l cells i ≡ rootWeight t (getD order i 0) (length (t .roots)) + into (λ k. recordAt (t .records) k .hi) (λ k. recordAt (t .records) k .lo) (λ k. getD cells (getD (laid .numbers) (k + 2) 0) 0 * highAt t s k) (λ k. getD cells (getD (laid .numbers) (k + 258) 0) 0 * lowAt t s k) (getD order i 0) n
         inflow-numbers i h =
-            rw (← root-brings (getD order i 0))
-            (laid-inflow (marked .size .1) room-for-arcs laid cells i h ∙ arcs-sum hs ls _ _ _ _ _ (getD order i 0) n (λ k l. (high-is marked k l, low-is marked k l, ap (λ (z : ℕ). getD cells (getD (laid .numbers) (k + 2) 0) 0 * z) (laid .weighed .highs k l ∙ high-at k l), ap (λ (z : ℕ). getD cells (getD (laid .numbers) (k + 258) 0) 0 * z) (laid .weighed .lows k l ∙ low-at k l))))
+            rw (← entering .all)
+            (laid-inflow (marked .size .1) (entering .few) room-for-arcs laid cells i h ∙ arcs-sum hs ls (rs .nodes) _ _ _ _ _ t (getD order i 0) n (rs .count) (λ k l. (high-is marked k l, low-is marked k l, ap (λ (z : ℕ). getD cells (getD (laid .numbers) (k + 2) 0) 0 * z) (laid .weighed .highs k l ∙ high-at k l), ap (λ (z : ℕ). getD cells (getD (laid .numbers) (k + 258) 0) 0 * z) (laid .weighed .lows k l ∙ low-at k l))) (λ k l. (entering .held .node k l, root-brings k l)))
 
         -- and by what the cells of the nodes before it hold
-        inflow-cells : (high low : ℕ → ℕ) (i : ℕ) → i < n → ((j k : ℕ) → j < i → getD order j 0 ≡ k + 2 → (getD cells (j + 2) 0 * highAt t s k ≡ high k) × (getD cells (j + 258) 0 * lowAt t s k ≡ low k)) → inflow l cells i ≡ cond (eqb (getD order i 0) (root t)) (getD cells 1 0) 0 + into (λ k. recordAt (t .records) k .hi) (λ k. recordAt (t .records) k .lo) high low (getD order i 0) n
+        inflow-cells : (high low : ℕ → ℕ) (i : ℕ) → i < n → ((j k : ℕ) → j < i → getD order j 0 ≡ k + 2 → (getD cells (j + 2) 0 * highAt t s k ≡ high k) × (getD cells (j + 258) 0 * lowAt t s k ≡ low k)) → inflow l cells i ≡ rootWeight t (getD order i 0) (length (t .roots)) + into (λ k. recordAt (t .records) k .hi) (λ k. recordAt (t .records) k .lo) high low (getD order i 0) n
         unfolding place
         inflow-cells high low i h right =
             let terms =
@@ -160,12 +161,14 @@ module _ {t : Table} {s : List ℕ} {n : ℕ} {ps hs ls ha la ms : List ℕ} (ma
             shares = marked .shares;
             monotone = monotone;
             bounded = marked .bounded;
+            scaled = marked .scaled;
+            rooted = held-rooted entering;
             some = rw same some;
             plan = marked .plan;
             legal = marked .legal;
-            sized = rw same (laid-sized (marked .size .1) room-for-arcs laid);
+            sized = rw same (laid-sized (marked .size .1) (entering .few) room-for-arcs laid);
             nodes = order-nodes t (marked .formed) few (marked .few) (marked .positions) order-is refl;
-            inflows = λ cells high low i h right. rw same (inflow-cells cells high low i (rw same at h) right);
+            inflows = λ cells one high low i h right. rw same (inflow-cells cells one high low i (rw same at h) right);
             lost = λ i k h e c o.
                 let h′ : i < n = rw same at h in
                 let r = node i h′ in

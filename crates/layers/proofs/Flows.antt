@@ -13,13 +13,13 @@ use lib.ListN.{length, getD, set, take, drop, length-set}
 use lib.Seq.{getD-set-same, getD-set-other}
 use lib.Dec.{eqb}
 use borrow.Author.Tests.{eqb-true, eq-eqb}
-use Rattle.diagram.specs.Table.{Variable, choice, chance, Table, recordAt, root, isChoice, choiceCount, scale}
+use Rattle.diagram.specs.Table.{Variable, choice, chance, Table, recordAt, isChoice, choiceCount, scale}
 use Rattle.diagram.specs.Plans.{openTaken, isOpen, upperBound, derivative}
 use Rattle.diagram.specs.Visits.{lowestOpen}
 use Rattle.diagram.specs.Checks.{positionOf}
 use Rattle.diagram.proofs.Every.{both, and-true-both}
 use Rattle.diagram.proofs.FirstVariable.{score-le-scale}
-use Rattle.scoring.specs.Value.{place, marksFrom, valueFrom, value, gap, variableAt, markAt, highShare, lowShare, highWeight, lowWeight, highArc, lowArc}
+use Rattle.scoring.specs.Value.{place, marksFrom, valueFrom, value, variableAt, markAt, highShare, lowShare, highWeight, lowWeight, highArc, lowArc}
 use Rattle.scoring.specs.Passes.{markOf, highInForce}
 use Rattle.sweep.specs.Drops.{isOf, shortfall}
 use Rattle.sweep.proofs.Leaving.{openTaken-set, open-taken, within-plan, choices-later, weights-taken, weights-left, weights-same, mark-number}
@@ -145,13 +145,12 @@ place-node t k =
 
 module _ {t : Table} {s order : List ℕ} {l : Layers} {losses : List ℕ} (layered : Layered t s order l losses) (u : List ℕ) where
   -- where the cells of the first i nodes are right, the path weight of the node at rank i comes to it
-  inflow-weight : {i : ℕ} {cells : List ℕ} → i < length (t .records) → getD cells 1 0 ≡ gap t 0 (place t (root t)) → Right t s u order i cells → inflow l cells i ≡ pathWeight t u (node order i)
+  inflow-weight : {i : ℕ} {cells : List ℕ} → i < length (t .records) → getD cells 1 0 ≡ 1 → Right t s u order i cells → inflow l cells i ≡ pathWeight t u (node order i)
   unfolding place
   inflow-weight {i} {cells} h rooted right =
       let k = layered .nodes i h in
-      layered .inflows cells (λ k. pathWeight t u (k + 2) * highWeight t u k) (λ k. pathWeight t u (k + 2) * lowWeight t u k) i h (λ j k b e. (right .high j k b e, right .low j k b e))
-      ∙ rw rooted
-      (sym (weight-step t (layered .formed) (layered .shares) (layered .sized .few) u (node order i) (omega (arith, k .2)) (omega (arith, k .1, k .2))))
+      layered .inflows cells rooted (λ k. pathWeight t u (k + 2) * highWeight t u k) (λ k. pathWeight t u (k + 2) * lowWeight t u k) i h (λ j k b e. (right .high j k b e, right .low j k b e))
+      ∙ (sym (weight-step t (layered .formed) (layered .shares) (layered .sized .few) (layered .rooted) u (node order i) (omega (arith, k .2)) (omega (arith, k .1, k .2))))
 
   -- the cells of one node more are right
   right-next : {i j : ℕ} {cells : List ℕ} (x y : ℕ) → i < 254 → j ≤ suc i → length cells ≡ 512 → ((k : ℕ) → node order i ≡ k + 2 → (x * highAt t s k ≡ pathWeight t u (k + 2) * highWeight t u k) × (y * lowAt t s k ≡ pathWeight t u (k + 2) * lowWeight t u k)) → Right t s u order i cells → Right t s u order j (put cells i x y)
@@ -181,7 +180,7 @@ module _ {t : Table} {s order : List ℕ} {l : Layers} {losses : List ℕ} (laye
   walked-start long right =
       record { wrote = wrote-start long; right = rw add-zero right; hold = λ j a b. absurd (omega arith) }
 
-  module _ {i n : ℕ} {cells c : List ℕ} (rooted : getD cells 1 0 ≡ gap t 0 (place t (root t))) (h : i + n < length (t .records)) (w : Walked i n cells c) where
+  module _ {i n : ℕ} {cells c : List ℕ} (rooted : getD cells 1 0 ≡ 1) (h : i + n < length (t .records)) (w : Walked i n cells c) where
     walked-inflow : inflow l c (i + n) ≡ pathWeight t u (node order (i + n))
     walked-inflow = inflow-weight h (w .wrote .root ∙ rooted) (w .right)
 
@@ -276,7 +275,7 @@ module _ (t : Table) (s : List ℕ) (k : ℕ) where
   unfolding highAt lowAt highInForce lowKept
   open-weights c o = rw (mark-of, c, mark-number t s k, o) (refl, refl)
 
-module _ {t : Table} {s order : List ℕ} {l : Layers} {losses : List ℕ} (layered : Layered t s order l losses) {p : List ℕ} (settles : Settles s p) {from own to d : ℕ} (line : Line t s order from own to d) (lowest : lowestOpen p ≡ d) (o : isOpen p d ≡ true) (cells : List ℕ) (long : length cells ≡ 512) (rooted : getD cells 1 0 ≡ gap t 0 (place t (root t))) (right : Right t s (openTaken p) order from cells) where
+module _ {t : Table} {s order : List ℕ} {l : Layers} {losses : List ℕ} (layered : Layered t s order l losses) {p : List ℕ} (settles : Settles s p) {from own to d : ℕ} (line : Line t s order from own to d) (lowest : lowestOpen p ≡ d) (o : isOpen p d ≡ true) (cells : List ℕ) (long : length cells ≡ 512) (rooted : getD cells 1 0 ≡ 1) (right : Right t s (openTaken p) order from cells) where
   -- there are few records
   few : length (t .records) ≤ 254
   few = layered .sized .few
@@ -334,7 +333,7 @@ module _ {t : Table} {s order : List ℕ} {l : Layers} {losses : List ℕ} (laye
   base-walked : Walked layered (openTaken p) from (own - from) cells base
   base-walked = passed (own - from) (omega (arith, line .bounds))
 
-  base-rooted : getD base 1 0 ≡ gap t 0 (place t (root t))
+  base-rooted : getD base 1 0 ≡ 1
   base-rooted = base-walked .wrote .root ∙ rooted
 
   -- and so do its own, by their hi arcs
@@ -428,11 +427,11 @@ module _ {t : Table} {s order : List ℕ} {l : Layers} {losses : List ℕ} (laye
       dropped (to - own) (omega (arith, line .bounds))
       ∙ line .covers lostAt
       ∙ at-line (length (t .records))
-      ∙ sym (drop-weights t (layered .formed) (layered .shares) (layered .sized .few) (layered .monotone) p d o)
+      ∙ sym (drop-weights t (layered .formed) (layered .shares) (layered .sized .few) (layered .rooted) (layered .monotone) p d o)
 
   drop-fits : derivative t p d ≤ 2 ^ 56
   unfolding derivative upperBound scale
-  drop-fits = rw o (omega (arith, score-le-scale t (layered .shares) (openTaken p), layered .bounded))
+  drop-fits = rw o (omega (arith, score-le-scale t (layered .shares) (openTaken p), layered .scaled))
 
   -- ---------------------------------------------------------------------------
   -- The layer entered
@@ -440,7 +439,7 @@ module _ {t : Table} {s order : List ℕ} {l : Layers} {losses : List ℕ} (laye
   -- the layer may be entered
   pub enterable : Enterable l losses (length (t .records)) from own to cells
   enterable =
-      let fits = weight-fits t (layered .formed) (layered .shares) (layered .sized .few) (layered .some) (layered .bounded) (openTaken p) in
+      let fits = weight-fits t (layered .formed) (layered .shares) (layered .sized .few) (layered .rooted) (layered .scaled) (openTaken p) in
       record {
         sized = layered .sized;
         bounds = line .bounds;
@@ -488,7 +487,7 @@ module _ {t : Table} {s order : List ℕ} {l : Layers} {losses : List ℕ} (laye
       let less : j < length (t .records) = omega (arith, line .bounds) in
       let here = layered .nodes j less in
       let place-le : place t (node order j) ≤ line .position = by-cases (decLt j own) (λ b. le-of-lt (line .before j b)) (λ f. le-of-eq (line .here j (omega (arith, f)) h)) in
-      weight-local t (layered .formed) (layered .shares) (layered .sized .few) (openTaken p) (openTaken (set p d 2)) (line .position) (λ k b q. before-weights k q) (k + 2) (omega arith) (omega (arith, here .1, here .2)) (rw e at place-le)
+      weight-local t (layered .formed) (layered .shares) (layered .sized .few) (layered .rooted) (openTaken p) (openTaken (set p d 2)) (line .position) (λ k b q. before-weights k q) (k + 2) (omega arith) (omega (arith, here .1, here .2)) (rw e at place-le)
 
   -- cells that are the same up to the end of the layer are right for the line left, once it is left
   module _ (cells′ : List ℕ) (long′ : length cells′ ≡ 512) (same : Same to entered cells′) where

@@ -2,15 +2,12 @@
 -- Assumes of the arrays that they are what `order_records` writes for a formed table of at most 254 records and fewer than 64 variables.
 use Prim.Native.Nat.{ℕ, zero, suc, _+_, _-_, _≤_, _<_}
 use native.Mathlib.Nat.{le-refl, zero-add}
-use native.Mathlib.Decide.{ℕ-discrete, decLt}
+use native.Mathlib.Decide.{decLt}
 use native.Mathlib.Omega.{arith}
 use mathlib.Core.Path.{_≡_, refl, ap, sym, _∙_}
-use mathlib.Core.Bool.{cond}
 use mathlib.Core.Logic.{by-cases}
 use mathlib.Core.List.{List, _++_}
-use lib.ListN.{length, getD, replicate, length-append}
-use lib.Dec.{eqb}
-use borrow.Author.Tests.{eq-eqb, ne-eqb}
+use lib.ListN.{length, getD, replicate}
 use Rattle.diagram.specs.Table.{Table, Record, sequence, recordAt}
 use Rattle.diagram.specs.Checks.{positionOf}
 use Rattle.diagram.proofs.Truth.{Formed}
@@ -20,7 +17,8 @@ use Rattle.implication.proofs.Pairing.{column-at}
 use Rattle.scoring.specs.Value.{place}
 use Rattle.scoring.specs.Passes.{over}
 use Rattle.scoring.proofs.Over.{over-sequence-at}
-use Rattle.layers.specs.Chains.{pick, joined, placed, rootArc, arcsInto, arcsInOrder}
+use Rattle.scoring.specs.declared.roots.Roots.{Roots}
+use Rattle.layers.specs.Chains.{pick, joined, placed, arcsInto, arcsInOrder}
 use Rattle.layers.specs.Flows.{rankSum, atSum}
 use Rattle.layers.proofs.Joining.{placed-at, listSum, rank-list, joined-suc, joined-mono, joined-at, joined-append, Stands, joined-find, pick-sum, pick-at, pick-find, pick-distinct, hits, hits-most, hits-once, picked-all, sum-ones, sum-most, paired-most}
 
@@ -28,28 +26,16 @@ use Rattle.layers.proofs.Joining.{placed-at, listSum, rank-list, joined
 abbrev pub nodesAt : (positions : List ℕ) → (n : ℕ) → ℕ → List ℕ
 nodesAt ps n x = pick ps 0 x n
 
--- the arcs into distinct nodes, of which one at most is the root
+-- the arcs into distinct nodes
 module _ (node : ℕ → ℕ) (n : ℕ) where
-  root-length : (c : ℕ) → length (rootArc n c) ≡ cond (eqb (n + 1) c) 1 0
-  unfolding rootArc
-  root-length c =
-      by-cases (ℕ-discrete c (n + 1))
-      (λ e. rw (eq-eqb c (n + 1) e, eq-eqb (n + 1) c (sym e)) refl)
-      (λ f. rw (ne-eqb c (n + 1) f, ne-eqb (n + 1) c (λ e. f (sym e))) refl)
-
-  roots : (r : ℕ) → length (joined (λ i. rootArc n (node i)) r) ≡ hits node (n + 1) r
-  unfolding joined hits
-  roots zero = refl
-  roots (suc r) = rw (length-append, roots r, root-length (node r)) refl
-
-  arcs-few : (hs ls : List ℕ) (r : ℕ) → ((i j : ℕ) → i < r → j < r → node i ≡ node j → i ≡ j) → length (joined (λ i. arcsInto hs ls n (node i)) r) ≤ n + n + 1
+  arcs-few : (hs ls es : List ℕ) (count r : ℕ) → ((i j : ℕ) → i < r → j < r → node i ≡ node j → i ≡ j) → length (joined (λ i. arcsInto hs ls es n count (node i)) r) ≤ n + n + count
   unfolding arcsInto
-  arcs-few hs ls r d =
+  arcs-few hs ls es count r d =
       let low = sum-most (λ k. hits node (getD ls (k + 2) 0) r) n (λ k. hits-most node _ r d) in
       let high = sum-most (λ k. hits node (getD hs (k + 2) 0) r) n (λ k. hits-most node _ r d) in
-      let one = hits-most node (n + 1) r d in
-      rw (joined-append (λ i. pick ls 256 (node i) n ++ pick hs 0 (node i) n) (λ i. rootArc n (node i)) r, joined-append (λ i. pick ls 256 (node i) n) (λ i. pick hs 0 (node i) n) r)
-      (omega (arith, roots r, picked-all ls 256 node r n, picked-all hs 0 node r n))
+      let root = sum-most (λ k. hits node (getD es (k + 2) 0) r) count (λ k. hits-most node _ r d) in
+      rw (joined-append (λ i. pick es 512 (node i) count) (λ i. pick ls 256 (node i) n ++ pick hs 0 (node i) n) r, joined-append (λ i. pick ls 256 (node i) n) (λ i. pick hs 0 (node i) n) r)
+      (omega (arith, picked-all es 512 node r count, picked-all ls 256 node r n, picked-all hs 0 node r n))
 
 -- a sum over the nodes at a position, by record
 at-sum : (t : Table) (ps : List ℕ) (f : ℕ → ℕ) (x n : ℕ) → ((k : ℕ) → k < n → getD ps (k + 2) 0 ≡ recordAt (t .records) k .position) → listSum f (pick ps 0 x n) ≡ atSum t f x n
@@ -58,7 +44,7 @@ at-sum t ps f x zero e = refl
 at-sum t ps f x (suc k) e =
     rw (pick-sum ps 0 x f k, e k (le-refl _), zero-add, at-sum t ps f x k (λ j l. e j (omega arith))) refl
 
-module _ (t : Table) (formed : Formed (length (t .variables)) (t .records)) (few : length (t .records) ≤ 254) (short : length (t .variables) < 64) {ps order ends : List ℕ} (positions : ps ≡ column (length (t .variables)) (λ (r : Record). r .position) (t .records)) (eo : order ≡ placed (replicate 1024 0) 0 (joined (nodesAt ps (length (t .records))) (length (t .variables)))) (ee : ends ≡ over (sequence (λ x. length (joined (nodesAt ps (length (t .records))) x)) 0 (length (t .variables) + 1)) (replicate 256 0)) where
+module _ (t : Table) (formed : Formed (length (t .variables)) (t .records)) (few : length (t .records) ≤ 254) (short : length (t .variables) < 64) {ps order ends : List ℕ} (positions : ps ≡ column (length (t .variables)) (λ (r : Record). r .position) (t .records)) (eo : order ≡ placed (replicate 1040 0) 0 (joined (nodesAt ps (length (t .records))) (length (t .variables)))) (ee : ends ≡ over (sequence (λ x. length (joined (nodesAt ps (length (t .records))) x)) 0 (length (t .variables) + 1)) (replicate 256 0)) where
   -- the records' number, the number of variables, the nodes at each position, and how many stand before it
   abbrev N : ℕ
   N = length (t .records)
@@ -91,7 +77,7 @@ module _ (t : Table) (formed : Formed (length (t .variables)) (t .records)) (few
       picked-all ps 0 (λ x. x) count N ∙ sum-ones _ N (λ k h. hits-once (getD ps (k + 2) 0) count (position-below k h))
 
   order-is : (i : ℕ) → getD order i 0 ≡ getD (joined lists count) i 0
-  order-is i = rw eo (placed-at 1024 (joined lists count) (omega (arith, all-nodes)) i)
+  order-is i = rw eo (placed-at 1040 (joined lists count) (omega (arith, all-nodes)) i)
 
   ends-is : (x : ℕ) → x ≤ count → getD ends x 0 ≡ before x
   ends-is x h = rw ee (over-sequence-at (λ y. length (joined (nodesAt ps (length (t .records))) y)) (replicate 256 0) (count + 1) x (omega arith))
@@ -203,6 +189,6 @@ module _ (t : Table) (formed : Formed (length (t .variables)) (t .records)) (few
       (rank-list (λ j. f (getD order j 0)) f (lists x) (before x) (λ j l. ap f (order-is _ ∙ joined-at lists x count h j l)) ∙ at-sum t ps f x N position-is)
 
   -- all arcs into nodes find room
-  pub arcs-room : (hs ls : List ℕ) → length (arcsInOrder hs ls order (length (t .records)) (length (t .records))) ≤ 1024
-  arcs-room hs ls =
-      omega (arith, arcs-few (λ i. getD order i 0) N hs ls N order-distinct, paired-most (λ i. arcsInto hs ls N (getD order i 0)) N)
+  pub arcs-room : (hs ls : List ℕ) (rs : Roots) → rs .count ≤ 16 → length (arcsInOrder hs ls rs order (length (t .records)) (length (t .records))) ≤ 1040
+  arcs-room hs ls rs most =
+      omega (arith, arcs-few (λ i. getD order i 0) N hs ls (rs .nodes) (rs .count) N order-distinct, paired-most (λ i. arcsInto hs ls (rs .nodes) N (rs .count) (getD order i 0)) N)

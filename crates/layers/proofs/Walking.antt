@@ -57,7 +57,7 @@ module _ (ss ws cells : List ℕ) (from : ℕ) where
 
 -- The arcs into a node are those between two starts
 module _ (l : Layers) {n i at end : ℕ} (cells : List ℕ) (sized : Sized l n) (less : i < n) (begins : at ≡ getD (l .starts) i 0) (ends : end ≡ getD (l .starts) (i + 1) 0) where
-  pub node-ready : inflow l cells i ≤ 2 ^ 56 → ((m : ℕ) × (end ≡ at + suc m + suc m)) × (end ≤ 1024) × ((j : ℕ) → getD (l .sources) j 0 < 512) × (flowSum (l .sources) (l .arcs) cells at (end - at) ≤ 2 ^ 56)
+  pub node-ready : inflow l cells i ≤ 2 ^ 56 → ((m : ℕ) × (end ≡ at + suc m + suc m)) × (end ≤ 1040) × ((j : ℕ) → getD (l .sources) j 0 < 512) × (flowSum (l .sources) (l .arcs) cells at (end - at) ≤ 2 ^ 56)
   unfolding inflow
   node-ready fits =
       (rw (begins, ends) (sized .pairs i less), rw ends (sized .within (i + 1) (omega arith)), sized .sources, rw (begins, ends) fits)

@@ -1,13 +1,13 @@
 -- The loops that fill the arrays of weights, cells and losses, one turn more. Assumes nothing.
 use Prim.Native.Nat.{ℕ, _+_, _-_, _*_, _≤_, _<_, _^_}
 use native.Mathlib.Nat.{zero-add, eq-or-lt-of-le}
-use native.Mathlib.Decide.{ℕ-discrete}
+use native.Mathlib.Decide.{decLt, ℕ-discrete}
 use native.Mathlib.Numerals.{add-one}
 use native.Mathlib.Omega.{arith}
 use mathlib.Core.Path.{_≡_, refl, sym, _∙_}
 use mathlib.Core.Logic.{by-cases, ⊎-elim}
 use mathlib.Core.List.{List}
-use lib.ListN.{length, getD, set, replicate, length-set}
+use lib.ListN.{length, getD, set, replicate, length-set, length-replicate, getD-replicate, List·getD-eq-default}
 use lib.Seq.{getD-set-same, getD-set-other}
 use borrow.Author.Tests.{eq-eqb, ne-eqb}
 use Rattle.diagram.specs.Table.{sequence}
@@ -15,8 +15,7 @@ use Rattle.diagram.proofs.Places.{sequence-length, sequence-snoc}
 use Rattle.scoring.specs.Passes.{over}
 use Rattle.scoring.proofs.Over.{over-next}
 use Rattle.layers.specs.Flows.{lowKept}
-use Rattle.layers.specs.Weighed.{Weighted, Numbered, lossOf}
-use Rattle.layers.proofs.Joining.{zero-at}
+use Rattle.layers.specs.Weighed.{Weighted, Brought, Numbered, lossOf}
 
 -- ---------------------------------------------------------------------------
 -- An array written from the front
@@ -38,29 +37,48 @@ module _ (f : ℕ → ℕ) (old : List ℕ) where
 -- ---------------------------------------------------------------------------
 -- The weights of arcs
 
--- the arcs of the first k records, and the root's own
+-- the roots' weights, one after the other
+pub bring-none : {brought weights : List ℕ} → length weights ≡ 544 → Brought 0 brought weights weights
+bring-none long = record { long = long; roots = λ k h. absurd (omega arith); others = λ a h. refl }
+
+pub bring-next : {brought weights cells : List ℕ} {i x : ℕ} → i < 16 → Brought i brought weights cells → x ≡ getD brought (i + 2) 0 → Brought (i + 1) brought weights (set cells (i + 514) x)
+bring-next {brought} {weights} {cells} {i} {x} few b e =
+    let long = b .long in
+    record {
+      long = simp length-set long;
+      roots = λ k h. ⊎-elim
+          (λ (q : k ≡ i). rw q (getD-set-same cells (i + 514) x 0 (omega arith) ∙ e))
+          (λ (less : k < i). getD-set-other cells (i + 514) (k + 514) x 0 (omega arith) ∙ b .roots k less)
+          (eq-or-lt-of-le {n = k} {m = i} (omega arith));
+      others = λ a h. getD-set-other cells (i + 514) a x 0 (omega arith) ∙ b .others a h;
+    }
+
+pub bring-all : {i r : ℕ} {brought weights cells : List ℕ} → i ≤ r → r ≤ i → Brought i brought weights cells → Brought r brought weights cells
+bring-all {i} {r} h l b =
+    let end : r ≡ i = omega arith in
+    rw end b
+
+-- the arcs of the first k records
 module _ (high low : ℕ → ℕ) where
-  pub weigh-none : (cells : List ℕ) → length cells ≡ 512 → Weighted 0 high low (set (set cells 0 0) 1 1)
+  pub weigh-none : (cells : List ℕ) → length cells ≡ 544 → Weighted 0 high low (set cells 0 0)
   weigh-none cells e =
       record {
-        none = getD-set-other (set cells 0 0) 1 0 1 0 (omega arith) ∙ getD-set-same cells 0 0 0 (omega arith);
-        root = getD-set-same (set cells 0 0) 1 1 0 (simp length-set (omega arith));
+        long = simp length-set e;
+        none = getD-set-same cells 0 0 0 (omega arith);
         highs = λ k h. absurd (omega arith);
         lows = λ k h. absurd (omega arith);
       }
 
-  pub weigh-next : {k x y : ℕ} {cells : List ℕ} → k < 254 → length cells ≡ 512 → Weighted k high low cells → x ≡ high k → y ≡ low k → Weighted (k + 1) high low (set (set cells (k + 2) x) (k + 258) y)
-  weigh-next {k} {x} {y} {cells} few size w ex ey =
-      let size′ : length (set cells (k + 2) x) ≡ 512 = simp length-set size in
+  pub weigh-next : {k x y : ℕ} {cells : List ℕ} → k < 254 → Weighted k high low cells → x ≡ high k → y ≡ low k → Weighted (k + 1) high low (set (set cells (k + 2) x) (k + 258) y)
+  weigh-next {k} {x} {y} {cells} few w ex ey =
+      let size = w .long in
+      let size′ : length (set cells (k + 2) x) ≡ 544 = simp length-set size in
       record {
+        long = simp length-set size;
         none =
             getD-set-other (set cells (k + 2) x) (k + 258) 0 y 0 (omega arith)
             ∙ getD-set-other cells (k + 2) 0 x 0 (omega arith)
             ∙ w .none;
-        root =
-            getD-set-other (set cells (k + 2) x) (k + 258) 1 y 0 (omega arith)
-            ∙ getD-set-other cells (k + 2) 1 x 0 (omega arith)
-            ∙ w .root;
         highs =
             λ j h.
             getD-set-other (set cells (k + 2) x) (k + 258) (j + 2) y 0 (omega arith)
@@ -84,6 +102,16 @@ module _ (high low : ℕ → ℕ) where
       let end : n ≡ k = omega arith in
       rw end w
 
+  -- the roots' arcs stand elsewhere
+  pub weighed-brought : {n r : ℕ} {brought weights weights′ : List ℕ} → n ≤ 254 → Weighted n high low weights → Brought r brought weights weights′ → Weighted n high low weights′
+  weighed-brought few w b =
+      record {
+        long = b .long;
+        none = b .others 0 (omega arith) ∙ w .none;
+        highs = λ k h. b .others (k + 2) (omega arith) ∙ w .highs k h;
+        lows = λ k h. b .others (k + 258) (omega arith) ∙ w .lows k h;
+      }
+
 -- the lo arc of a line that is taken, and of any other
 pub low-closed : {m : ℕ} (w : ℕ) → m ≡ 1 → 0 ≡ lowKept m w
 unfolding lowKept
@@ -106,29 +134,35 @@ set-small l i x h small before a =
     (λ e. rw (e, getD-set-same l i x 0 h) small)
     (λ ne. rw (getD-set-other l i a x 0 ne) (before a))
 
--- the root's cell alone is numbered to begin with
-pub number-none : (order : List ℕ) {numbers : List ℕ} → length numbers ≡ 512 → numbers ≡ replicate 512 0 → Numbered 0 order (set numbers 1 1)
-number-none order {numbers} size e =
+-- to begin with every number has the cell of the roots' arcs
+pub number-none : (order : List ℕ) {numbers : List ℕ} → numbers ≡ replicate 544 1 → Numbered 0 order numbers
+number-none order e =
     record {
-      root = getD-set-same numbers 1 1 0 (omega arith);
+      roots = λ k h. rw e (getD-replicate 544 (k + 514) 1 0 (omega arith));
       highs = λ i h. absurd (omega arith);
       lows = λ i h. absurd (omega arith);
-      few = set-small numbers 1 1 (omega arith) (omega arith) (λ a. rw (e, zero-at 512 a) (omega arith));
+      few = λ a. rw e (one-small a);
     }
+  where
+    one-small : (a : ℕ) → getD (replicate 544 1) a 0 < 512
+    one-small a =
+        by-cases (decLt a 544)
+        (λ l. rw (getD-replicate {A = ℕ} 544 a 1 0 l) (omega arith))
+        (λ f. rw (List·getD-eq-default {A = ℕ} (replicate 544 1) 0 {n = a} (rw length-replicate (omega (arith, f)))) (omega arith))
 
 -- the cells of the node at rank i are numbered, which is no node before
 module _ {n : ℕ} {order : List ℕ} (most : n ≤ 254) (nodes : (i : ℕ) → i < n → (2 ≤ getD order i 0) × (getD order i 0 < 256)) (distinct : (i j : ℕ) → i < n → j < n → getD order i 0 ≡ getD order j 0 → i ≡ j) where
-  pub number-next : {i m : ℕ} {numbers : List ℕ} → i < n → length numbers ≡ 512 → Numbered i order numbers → m ≡ getD order i 0 → Numbered (i + 1) order (set (set numbers m (i + 2)) (m + 256) (i + 258))
+  pub number-next : {i m : ℕ} {numbers : List ℕ} → i < n → length numbers ≡ 544 → Numbered i order numbers → m ≡ getD order i 0 → Numbered (i + 1) order (set (set numbers m (i + 2)) (m + 256) (i + 258))
   number-next {i} {m} {numbers} rank size w em =
       let node = nodes i rank in
       let first = set numbers m (i + 2) in
-      let size′ : length first ≡ 512 = simp length-set size in
+      let size′ : length first ≡ 544 = simp length-set size in
       let other : (j : ℕ) → j < i → getD order j 0 ≡ m → ⊥ = λ j less e. let same = distinct j i (omega arith) rank (e ∙ em) in omega arith in
       record {
-        root =
-            getD-set-other first (m + 256) 1 (i + 258) 0 (omega arith)
-            ∙ getD-set-other numbers m 1 (i + 2) 0 (omega arith)
-            ∙ w .root;
+        roots = λ k h.
+            getD-set-other first (m + 256) (k + 514) (i + 258) 0 (omega arith)
+            ∙ getD-set-other numbers m (k + 514) (i + 2) 0 (omega arith)
+            ∙ w .roots k h;
         highs =
             λ j h.
             let at = nodes j (omega arith) in

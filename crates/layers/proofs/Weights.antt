@@ -3,33 +3,33 @@
 -- Assumes of the table that its records are formed as check 17 wants them, that its shares are shares, and that it has at most 254 records.
 use Prim.Native.Nat.{ℕ, zero, suc, _+_, _*_, _≤_, _<_, _^_}
 use native.Mathlib.Nat.{le-refl, le-of-eq, add-zero, eq-or-lt-of-le}
-use native.Mathlib.Decide.{ℕ-discrete, decLt}
+use native.Mathlib.Decide.{decLt}
 use native.Mathlib.Omega.{arith}
 use mathlib.Core.Path.{_≡_, refl, ap, sym, _∙_}
 use mathlib.Core.Logic.{⊎-elim, by-cases}
 use mathlib.Core.Bool.{Bool, true, false, cond}
 use mathlib.Core.List.{List}
 use lib.ListN.{length, getD, set, drop, replicate, length-replicate}
-use lib.Seq.{getD-set-same, getD-set-other}
 use lib.Dec.{eqb}
-use borrow.Author.Tests.{eqb-true, eq-eqb, ne-eqb}
-use Rattle.diagram.specs.Table.{Table, recordAt, root, scaleOf}
+use borrow.Author.Tests.{eqb-true, ne-eqb}
+use Rattle.diagram.specs.Table.{Table, recordAt, scaleOf, scale}
 use Rattle.diagram.specs.Score.{score}
 use Rattle.diagram.specs.Plans.{openTaken, isOpen, upperBound, derivative}
 use Rattle.diagram.specs.Checks.{positionOf}
 use Rattle.diagram.proofs.Truth.{Formed}
 use Rattle.diagram.proofs.Places.{sequence-at}
-use Rattle.diagram.proofs.Locality.{position-le}
 use Rattle.diagram.proofs.FirstVariable.{Shares, scale-positive}
 use Rattle.diagram.proofs.Rising.{Monotone}
-use Rattle.scoring.specs.Value.{place, value, gap, highWeight, lowWeight}
+use Rattle.reading.specs.Roots.{rootAt}
+use Rattle.scoring.specs.Value.{place, value, rootedSum, highWeight, lowWeight}
 use Rattle.scoring.specs.Passes.{byNode, Arcs}
-use Rattle.scoring.proofs.Values.{gap-scale, shares-drop, weights-scale, value-false, value-true, value-step, score-value}
-use Rattle.sweep.specs.Down.{dot, recordSum, added, handOn, passDown, Budget}
+use Rattle.scoring.proofs.Values.{shares-drop, weights-scale, value-false, value-true, value-step, score-rooted, scale-rooted}
+use Rattle.sweep.specs.Down.{dot, recordSum, added, rootWeights, rootWeight, Rooted, handOn, passDown, Budget}
 use Rattle.sweep.specs.Drops.{shortfall}
-use Rattle.sweep.proofs.Transposing.{added-length, hand-on-length, hand-on-other, stays, transposed, budget-next, budget-weight, dot-one}
+use Rattle.sweep.proofs.Transposing.{added-length, hand-on-length, hand-on-other, stays, transposed, budget-next, budget-weight}
 use Rattle.sweep.proofs.Leaving.{left-step}
-use Rattle.sweep.proofs.Deriving.{zeros-bound, stored-size}
+use Rattle.sweep.proofs.RootWeights.{root-weights-length, all-dot, added-cell, root-weights-cell}
+use Rattle.sweep.proofs.Deriving.{zeros-bound}
 use Rattle.layers.specs.Weights.{arcsUnder, pathWeight, into, weightSum}
 
 -- ---------------------------------------------------------------------------
@@ -66,23 +66,8 @@ unfolding weightSum
 sum-zero w zero = refl
 sum-zero w (suc k) = omega (arith, sum-zero w k)
 
--- zeros with one weight stored
-stored-cell : (i x m : ℕ) → i < 256 → getD (set (replicate 256 0) i x) m 0 ≡ cond (eqb m i) x 0
-stored-cell i x m h =
-    by-cases (ℕ-discrete m i)
-    (λ e. rw (eq-eqb m i e, e) (getD-set-same (replicate 256 0) i x 0 (rw length-replicate h)))
-    (λ ne. rw (ne-eqb m i ne, getD-set-other (replicate 256 0) i m x 0 ne) (omega (arith, zeros-bound 256 0 m)))
-
 -- ---------------------------------------------------------------------------
 -- The cells of a pass down
-
--- a cell after an addition
-added-cell : (ws : List ℕ) (i x c : ℕ) → i < length ws → getD (added ws i x) c 0 ≡ getD ws c 0 + cond (eqb i c) x 0
-unfolding added
-added-cell ws i x c h =
-    by-cases (ℕ-discrete i c)
-    (λ e. rw (eq-eqb i c e, ← e) (getD-set-same ws i (getD ws i 0 + x) 0 h))
-    (λ ne. rw (ne-eqb i c ne, getD-set-other ws i c (getD ws i 0 + x) 0 (omega arith)) (omega arith))
 
 -- a cell after a handing on
 hand-on-cell : (a : Arcs) (m : ℕ) (ws : List ℕ) (c : ℕ) → getD (a .high) m 0 < length ws → getD (a .low) m 0 < length ws → getD (handOn a m ws) c 0 ≡ getD ws c 0 + (cond (eqb (getD (a .high) m 0) c) (getD ws m 0 * getD (a .highWeights) m 0) 0 + cond (eqb (getD (a .low) m 0) c) (getD ws m 0 * getD (a .lowWeights) m 0) 0)
@@ -127,17 +112,21 @@ pass-fits {a} (suc k) ws b size i h =
 -- ---------------------------------------------------------------------------
 -- The weights of a table
 
-module _ (t : Table) (formed : Formed (length (t .variables)) (t .records)) (shares : Shares (t .variables)) (few : length (t .records) ≤ 254) where
+module _ (t : Table) (formed : Formed (length (t .variables)) (t .records)) (shares : Shares (t .variables)) (few : length (t .records) ≤ 254) (rooted : Rooted t) where
   -- the weights to begin with
   abbrev first : List ℕ
-  first = set (replicate 256 0) (root t) (gap t 0 (place t (root t)))
+  first = rootWeights t (length (t .roots)) (replicate 256 0)
+
+  long : length first ≡ 256
+  long = root-weights-length t (length (t .roots)) (replicate 256 0) ∙ length-replicate {A = ℕ} 256 0
 
   first-size : length (t .records) + 2 ≤ length first
-  first-size = omega (arith, stored-size (root t) (gap t 0 (place t (root t))))
+  first-size = omega (arith, long)
 
-  root-small : root t < 256
-  unfolding root
-  root-small = omega arith
+  first-cell : (m : ℕ) → getD first m 0 ≡ rootWeight t m (length (t .roots))
+  first-cell m =
+      let zeros = length-replicate {A = ℕ} 256 0 in
+      omega (arith, root-weights-cell t rooted (replicate 256 0) (omega arith) m (length (t .roots)) (le-refl _), zeros-bound 256 0 m)
 
   -- the lists hold the children and the weights of record k's arcs
   high-at : (u : List ℕ) (k : ℕ) → k < length (t .records) → getD (arcsUnder t u .high) (k + 2) 0 ≡ recordAt (t .records) k .hi
@@ -163,11 +152,11 @@ module _ (t : Table) (formed : Formed (length (t .variables)) (t .records)) (sha
   low-less : (u : List ℕ) (k : ℕ) → k < length (t .records) → getD (arcsUnder t u .low) (k + 2) 0 < k + 2
   low-less u k h = rw (low-at u k h) (formed .loLess k)
 
-  -- a node's weight is what its parents hand on, and the root's own
-  pub weight-step : (u : List ℕ) (m : ℕ) → 2 ≤ m → m < length (t .records) + 2 → pathWeight t u m ≡ cond (eqb m (root t)) (gap t 0 (place t (root t))) 0 + into (λ k. recordAt (t .records) k .hi) (λ k. recordAt (t .records) k .lo) (λ k. pathWeight t u (k + 2) * highWeight t u k) (λ k. pathWeight t u (k + 2) * lowWeight t u k) m (length (t .records))
+  -- a node's weight is what its parents hand on and what the roots bring
+  pub weight-step : (u : List ℕ) (m : ℕ) → 2 ≤ m → m < length (t .records) + 2 → pathWeight t u m ≡ rootWeight t m (length (t .roots)) + into (λ k. recordAt (t .records) k .hi) (λ k. recordAt (t .records) k .lo) (λ k. pathWeight t u (k + 2) * highWeight t u k) (λ k. pathWeight t u (k + 2) * lowWeight t u k) m (length (t .records))
   unfolding pathWeight
   weight-step u m h l =
-      rw (← stored-cell (root t) (gap t 0 (place t (root t))) m root-small)
+      rw (← first-cell m)
       (pass-cell (arcsUnder t u) (length (t .records)) first (λ k. recordAt (t .records) k .hi) (λ k. recordAt (t .records) k .lo) (pathWeight t u) (highWeight t u) (lowWeight t u) (high-less u) (low-less u) first-size (high-at u) (low-at u) (high-weight-at u) (low-weight-at u) (λ k l. refl) m)
 
   -- a record's node stands at its position
@@ -184,7 +173,7 @@ module _ (t : Table) (formed : Formed (length (t .variables)) (t .records)) (sha
     weight-local-by zero m b h l p = absurd (omega arith)
     weight-local-by (suc f) m b h l p =
         rw (weight-step u m h l, weight-step u′ m h l)
-        (ap (λ (z : ℕ). cond (eqb m (root t)) (gap t 0 (place t (root t))) 0 + z)
+        (ap (λ (z : ℕ). rootWeight t m (length (t .roots)) + z)
         (into-same _ _ _ _ _ _ m (length (t .records))
         (λ k s e.
         let later : recordAt (t .records) k .position < place t m = rw e at (formed .hiLater k) in
@@ -199,13 +188,12 @@ module _ (t : Table) (formed : Formed (length (t .variables)) (t .records)) (sha
   pub weight-local : (u u′ : List ℕ) (x : ℕ) → ((k : ℕ) → k < length (t .records) → recordAt (t .records) k .position < x → (highWeight t u k ≡ highWeight t u′ k) × (lowWeight t u k ≡ lowWeight t u′ k)) → (m : ℕ) → 2 ≤ m → m < length (t .records) + 2 → place t m ≤ x → pathWeight t u m ≡ pathWeight t u′ m
   weight-local u u′ x same m h l p = weight-local-by u u′ x same (suc (place t m)) m (le-refl _) h l p
 
-  -- the sum with the weights to begin with is the root's term
-  first-dot : (v : ℕ → ℕ) → dot first v (length (t .records) + 2) ≡ gap t 0 (place t (root t)) * v (root t)
-  unfolding root
-  first-dot v = dot-one 256 v (length (t .records) + 1) (gap t 0 (place t (root t))) (length (t .records) + 2) (omega arith) (omega arith)
+  -- the sum with the weights to begin with is the sum over the roots
+  first-dot : (v : ℕ → ℕ) → dot first v (length (t .records) + 2) ≡ rootedSum t v
+  first-dot v = all-dot t rooted v few
 
   -- the pass down stays within its budget: a node's number is the product of b from its position on
-  budget : scaleOf (t .variables) ≤ 2 ^ 56 → (u : List ℕ) → Budget (arcsUnder t u) (length (t .records)) (λ i. scaleOf (drop (place t i) (t .variables))) first
+  budget : scale t ≤ 2 ^ 56 → (u : List ℕ) → Budget (arcsUnder t u) (length (t .records)) (λ i. scaleOf (drop (place t i) (t .variables))) first
   unfolding place
   budget bounded u =
       record {
@@ -213,28 +201,35 @@ module _ (t : Table) (formed : Formed (length (t .variables)) (t .records)) (sha
         steps = λ k h.
             rw (high-weight-at u k h, low-weight-at u k h, high-at u k h, low-at u k h, place-record k)
             (le-of-eq (weights-scale t formed shares u k));
-        total = rw (first-dot (λ i. scaleOf (drop (place t i) (t .variables))), gap-scale t 0 (place t (root t)) (omega arith) (position-le formed _)) bounded;
+        total = rw (first-dot (λ i. scaleOf (drop (place t i) (t .variables))), scale-rooted t formed shares) bounded;
         highLess = high-less u;
         lowLess = low-less u;
       }
 
+  -- past the last record nothing comes
+  root-weight-past : (m : ℕ) → length (t .records) + 2 ≤ m → (i : ℕ) → i ≤ length (t .roots) → rootWeight t m i ≡ 0
+  unfolding rootWeight
+  root-weight-past m h zero l = refl
+  root-weight-past m h (suc i) l =
+      rw (ne-eqb (rootAt (t .roots) i .node) m (omega (arith, rooted i (omega arith) .1)), root-weight-past m h i (omega arith)) refl
+
   -- it fits
-  pub weight-fits : 1 ≤ length (t .records) → scaleOf (t .variables) ≤ 2 ^ 56 → (u : List ℕ) (m : ℕ) → pathWeight t u m ≤ 2 ^ 56
-  unfolding pathWeight root
-  weight-fits some bounded u m =
+  pub weight-fits : scale t ≤ 2 ^ 56 → (u : List ℕ) (m : ℕ) → pathWeight t u m ≤ 2 ^ 56
+  unfolding pathWeight
+  weight-fits bounded u m =
       by-cases (decLt m (length (t .records) + 2))
       (λ l. pass-fits (length (t .records)) first (budget bounded u) first-size m l)
-      (λ f. rw (stays (arcsUnder t u) (length (t .records)) first (high-less u) (low-less u) m (omega (arith, f)), stored-cell (root t) (gap t 0 (place t (root t))) m root-small, ne-eqb m (root t) (omega (arith, f))) (omega arith))
+      (λ f. rw (stays (arcsUnder t u) (length (t .records)) first (high-less u) (low-less u) m (omega (arith, f)), first-cell m, root-weight-past m (omega (arith, f)) (length (t .roots)) (le-refl _)) (omega arith))
 
   -- a score, with what values that go by the arcs under a plan fall short, is the weight that comes to the end true
   summed : (u v : List ℕ) (r : ℕ → ℕ) → ((k : ℕ) → value t v (k + 2) + r k ≡ highWeight t u k * value t v (recordAt (t .records) k .hi) + lowWeight t u k * value t v (recordAt (t .records) k .lo)) → score t v + weightSum (pathWeight t u) r (length (t .records)) ≡ pathWeight t u 1
-  unfolding pathWeight score dot
+  unfolding pathWeight dot
   summed u v r step =
       let n = length (t .records) in
       let ds = passDown (arcsUnder t u) n first in
       let all = transposed (arcsUnder t u) n first (value t v) r (high-less u) (low-less u) first-size (λ k h. rw (high-weight-at u k h, low-weight-at u k h, high-at u k h, low-at u k h) (step k)) in
       let ends : dot ds (value t v) 2 ≡ getD ds 1 0 = rw (value-false, value-true) (omega arith) in
-      omega (arith, all, ends, first-dot (value t v), score-value t formed shares v (root t), sum-cells ds (pathWeight t u) r (λ i. refl) n)
+      omega (arith, all, ends, first-dot (value t v), score-rooted t formed shares v, sum-cells ds (pathWeight t u) r (λ i. refl) n)
 
   -- the top is the weight that comes to the end true
   top-is : (u : List ℕ) → score t u ≡ pathWeight t u 1

@@ -5,7 +5,7 @@ use mathlib.Core.Bool.{true, cond}
 use mathlib.Core.List.{List}
 use lib.ListN.{length, getD, take}
 use lib.Dec.{eqb}
-use Rattle.diagram.specs.Table.{Table, chance, recordAt, root, isChoice, choiceCount, scaleOf}
+use Rattle.diagram.specs.Table.{Table, chance, recordAt, isChoice, choiceCount, scaleOf, scale}
 use Rattle.diagram.specs.Plans.{openTaken, isOpen}
 use Rattle.diagram.specs.Visits.{lowestOpen}
 use Rattle.diagram.proofs.Truth.{Formed}
@@ -13,6 +13,7 @@ use Rattle.diagram.proofs.FirstVariable.{Shares}
 use Rattle.diagram.proofs.Rising.{Monotone}
 use Rattle.scoring.specs.Value.{place, value, variableAt, highWeight, lowWeight, highArc, lowArc}
 use Rattle.scoring.specs.Passes.{markOf, highInForce}
+use Rattle.sweep.specs.Down.{rootWeight, Rooted}
 use Rattle.layers.specs.Weights.{pathWeight, into}
 use Rattle.layers.specs.Layers.{Layers, Sized, inflow}
 
@@ -47,12 +48,14 @@ pub record Layered (t : Table) (s order : List ℕ) (l : Layers) (losses : List 
   pub shares : Shares (t .variables)
   pub monotone : Monotone t
   pub bounded : scaleOf (t .variables) ≤ 2 ^ 56
+  pub scaled : scale t ≤ 2 ^ 56
+  pub rooted : Rooted t
   pub some : 1 ≤ length (t .records)
   pub plan : length s ≡ choiceCount (t .variables)
   pub legal : (i : ℕ) → getD s i 0 ≤ 2
   pub sized : Sized l (length (t .records))
   pub nodes : (i : ℕ) → i < length (t .records) → ((k : ℕ) × (k < length (t .records)) × (getD order i 0 ≡ k + 2))
-  pub inflows : (cells : List ℕ) (high low : ℕ → ℕ) (i : ℕ) → i < length (t .records) → ((j k : ℕ) → j < i → getD order j 0 ≡ k + 2 → (getD cells (j + 2) 0 * highAt t s k ≡ high k) × (getD cells (j + 258) 0 * lowAt t s k ≡ low k)) → inflow l cells i ≡ cond (eqb (getD order i 0) (root t)) (getD cells 1 0) 0 + into (λ k. recordAt (t .records) k .hi) (λ k. recordAt (t .records) k .lo) high low (getD order i 0) (length (t .records))
+  pub inflows : (cells : List ℕ) → getD cells 1 0 ≡ 1 → (high low : ℕ → ℕ) (i : ℕ) → i < length (t .records) → ((j k : ℕ) → j < i → getD order j 0 ≡ k + 2 → (getD cells (j + 2) 0 * highAt t s k ≡ high k) × (getD cells (j + 258) 0 * lowAt t s k ≡ low k)) → inflow l cells i ≡ rootWeight t (getD order i 0) (length (t .roots)) + into (λ k. recordAt (t .records) k .hi) (λ k. recordAt (t .records) k .lo) high low (getD order i 0) (length (t .records))
   pub lost : (i k : ℕ) → i < length (t .records) → getD order i 0 ≡ k + 2 → isChoice (variableAt t k) ≡ true → isOpen s (choiceCount (take (recordAt (t .records) k .position) (t .variables))) ≡ true → getD losses i 0 ≡ value t (openTaken s) (k + 2) - lowArc t k * value t (openTaken s) (recordAt (t .records) k .lo)
 
 -- The sum of f over n ranks from i on
@@ -90,7 +93,7 @@ pub record Right (t : Table) (s u order : List ℕ) (i : ℕ) (cells : List ℕ)
   pub high : (j k : ℕ) → j < i → getD order j 0 ≡ k + 2 → getD cells (j + 2) 0 * highAt t s k ≡ pathWeight t u (k + 2) * highWeight t u k
   pub low : (j k : ℕ) → j < i → getD order j 0 ≡ k + 2 → getD cells (j + 258) 0 * lowAt t s k ≡ pathWeight t u (k + 2) * lowWeight t u k
 
--- The cells of the first i nodes, and that of the root's weight, are the same
+-- The cells of the first i nodes, and that of the roots' arcs, are the same
 pub record Same (i : ℕ) (cells cells′ : List ℕ) : Type 0 where
   pub high : (j : ℕ) → j < i → getD cells′ (j + 2) 0 ≡ getD cells (j + 2) 0
   pub low : (j : ℕ) → j < i → getD cells′ (j + 258) 0 ≡ getD cells (j + 258) 0

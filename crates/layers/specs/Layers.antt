@@ -1,6 +1,6 @@
 -- A table laid out for a search, and what a visit does with it. The nodes stand in order of position; a node's place in this order is its rank. The node
 -- at rank i has two cells: cell i + 2 has what its hi arc hands on, cell i + 258 what its lo arc hands on, both before the arc's own weight. Cell 1 has
--- the root's weight.
+-- 1, and the roots' arcs start from it.
 use Prim.Native.Nat.{ℕ, zero, suc, _+_, _-_, _*_, _≤_, _<_, _^_}
 use mathlib.Core.Path.{_≡_}
 use mathlib.Core.List.{List}
@@ -20,7 +20,7 @@ layersOf starts sources arcs = record { starts = starts; sources = sources; arcs
 pub record Sized (l : Layers) (n : ℕ) : Type 0 where
   pub few : n ≤ 254
   pub pairs : (i : ℕ) → i < n → ((m : ℕ) × (getD (l .starts) (i + 1) 0 ≡ getD (l .starts) i 0 + suc m + suc m))
-  pub within : (i : ℕ) → i ≤ n → getD (l .starts) i 0 ≤ 1024
+  pub within : (i : ℕ) → i ≤ n → getD (l .starts) i 0 ≤ 1040
   pub sources : (j : ℕ) → getD (l .sources) j 0 < 512
 
 -- What n arcs from place j on bring: each the number in its cell times its weight

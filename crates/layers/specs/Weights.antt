@@ -1,14 +1,14 @@
--- The path weight of a node: the sum, over all paths from the root to the node, of the product of the arcs' weights along the path. Source document 000
--- has it as (6.9) and (6.10); here it is a whole number.
+-- The path weight of a node: the sum, over all paths from a root to the node, of what comes to the root times the product of the arcs' weights along the
+-- path. Source document 000 has it as (6.9) and (6.10); here it is a whole number.
 use Prim.Native.Nat.{ℕ, zero, suc, _+_, _*_}
 use mathlib.Core.Bool.{cond}
 use mathlib.Core.List.{List}
-use lib.ListN.{length, getD, set, replicate}
+use lib.ListN.{length, getD, replicate}
 use lib.Dec.{eqb}
-use Rattle.diagram.specs.Table.{Table, recordAt, root}
-use Rattle.scoring.specs.Value.{place, gap, highWeight, lowWeight}
+use Rattle.diagram.specs.Table.{Table, recordAt}
+use Rattle.scoring.specs.Value.{highWeight, lowWeight}
 use Rattle.scoring.specs.Passes.{byNode, Arcs}
-use Rattle.sweep.specs.Down.{passDown}
+use Rattle.sweep.specs.Down.{rootWeights, passDown}
 
 -- The children of a table's records and the weights of their arcs under a full plan
 unfoldable pub arcsUnder : Table → (plan : List ℕ) → Arcs
@@ -24,7 +24,7 @@ arcsUnder t u =
 unfoldable pub pathWeight : Table → (plan : List ℕ) → (m : ℕ) → ℕ
 pathWeight t u m =
     getD
-    (passDown (arcsUnder t u) (length (t .records)) (set (replicate 256 0) (root t) (gap t 0 (place t (root t)))))
+    (passDown (arcsUnder t u) (length (t .records)) (rootWeights t (length (t .roots)) (replicate 256 0)))
     m
     0
 

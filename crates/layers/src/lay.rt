@@ -4,6 +4,8 @@ use crate::weigh::number_cells;
 use crate::weigh::pick_arcs;
 use crate::weigh::pick_cells;
 use crate::weigh::weigh_arcs;
+use crate::weigh::weigh_roots;
+use scoring::Roots;
 ghost use mathlib.Core.Path.{_≡_};
 ghost use Prim.Native.Nat.{ℕ, _≤_, _<_};
 ghost use lib.ListN.{length, getD, replicate};
@@ -15,27 +17,28 @@ ghost use Rattle.layers.specs.Weighed.{Laid};
 // and its weight. The search hands in zeros, and an accepted table's records, as `order_records` puts them in order.
 pub fn lay_arcs(
     n: usize,
+    roots: Roots,
     positions: &[u8; 256],
     high: &[u8; 256],
     low: &[u8; 256],
     high_arcs: &[u64; 256],
     low_arcs: &[u64; 256],
     marks: &[u8; 64],
-    order: &[u16; 1024],
+    order: &[u16; 1040],
     starts: &mut [u16; 256],
-    sources: &mut [u16; 1024],
-    arcs: &mut [u64; 1024],
+    sources: &mut [u16; 1040],
+    arcs: &mut [u64; 1040],
 )
-    requires nodes { ⌜ (n ≤ 254) × ((i : ℕ) → i < n → (2 ≤ getD (now order) i 0) × (getD (now order) i 0 < 256)) × ((i j : ℕ) → i < n → j < n → getD (now order) i 0 ≡ getD (now order) j 0 → i ≡ j) ⌝ }
-    requires fits { ⌜ ((k : ℕ) → getD (now positions) k 0 < 64) × (length (arcsInOrder (now high) (now low) (now order) n n) ≤ 1024) ⌝ }
-    requires zeros { ⌜ (now starts ≡ replicate 256 0) × (now sources ≡ replicate 1024 0) × (now arcs ≡ replicate 1024 0) ⌝ }
-    ensures { λ _. ⌜ Laid n (now (positions .entry)) (now (high .entry)) (now (low .entry)) (now («high_arcs» .entry)) (now («low_arcs» .entry)) (now (marks .entry)) (now (order .entry)) (layersOf (now (starts .exit)) (now (sources .exit)) (now (arcs .exit))) ⌝ }
+    requires nodes { ⌜ (n ≤ 254) × (roots .count ≤ 16) × ((i : ℕ) → i < n → (2 ≤ getD (now order) i 0) × (getD (now order) i 0 < 256)) × ((i j : ℕ) → i < n → j < n → getD (now order) i 0 ≡ getD (now order) j 0 → i ≡ j) ⌝ }
+    requires fits { ⌜ ((k : ℕ) → getD (now positions) k 0 < 64) × (length (arcsInOrder (now high) (now low) roots (now order) n n) ≤ 1040) ⌝ }
+    requires zeros { ⌜ (now starts ≡ replicate 256 0) × (now sources ≡ replicate 1040 0) × (now arcs ≡ replicate 1040 0) ⌝ }
+    ensures { λ _. ⌜ Laid n roots (now (positions .entry)) (now (high .entry)) (now (low .entry)) (now («high_arcs» .entry)) (now («low_arcs» .entry)) (now (marks .entry)) (now (order .entry)) (layersOf (now (starts .exit)) (now (sources .exit)) (now (arcs .exit))) ⌝ }
 {
-    let mut list = [0u16; 1024];
-    order_arcs(n, high, low, order, &mut list, starts);
-    let mut weights = [0u64; 512];
+    let list = order_arcs(n, roots, high, low, order, starts);
+    let mut weights = [0u64; 544];
     weigh_arcs(n, positions, marks, high_arcs, low_arcs, &mut weights);
-    let mut numbers = [0u16; 512];
+    weigh_roots(roots, &mut weights);
+    let mut numbers = [1u16; 544];
     number_cells(n, order, &mut numbers);
     let count = starts[n] as usize;
     pick_arcs(count, &list, &weights, arcs);

@@ -9,8 +9,8 @@ ghost use Rattle.layers.specs.Layers.{layersOf, Sized, flowSum, put, pas
 // are a layout, and the sums fit: `visit` hands them in.
 pub fn enter_layer(
     starts: &[u16; 256],
-    sources: &[u16; 1024],
-    arcs: &[u64; 1024],
+    sources: &[u16; 1040],
+    arcs: &[u64; 1040],
     losses: &[u64; 256],
     lines: &[u16; 84],
     cells: &mut [u64; 512],
@@ -30,8 +30,8 @@ pub fn enter_layer(
 // The nodes from one rank to another hand on what comes to them.
 fn pass(
     starts: &[u16; 256],
-    sources: &[u16; 1024],
-    arcs: &[u64; 1024],
+    sources: &[u16; 1040],
+    arcs: &[u64; 1040],
     cells: &mut [u64; 512],
     from: usize,
     to: usize,
@@ -53,8 +53,8 @@ fn pass(
 // The nodes of an open line hand on what comes to them by their hi arcs. Answers what leaving the line loses.
 fn enter(
     starts: &[u16; 256],
-    sources: &[u16; 1024],
-    arcs: &[u64; 1024],
+    sources: &[u16; 1040],
+    arcs: &[u64; 1040],
     losses: &[u64; 256],
     cells: &mut [u64; 512],
     from: usize,
@@ -119,13 +119,13 @@ fn put_both(cells: &mut [u64; 512], i: usize, high: u64, low: u64)
 
 // What the arcs from one place of their list to another bring, which are one pair or more.
 fn flow(
-    sources: &[u16; 1024],
-    arcs: &[u64; 1024],
+    sources: &[u16; 1040],
+    arcs: &[u64; 1040],
     cells: &[u64; 512],
     from: usize,
     to: usize,
 ) -> u64
-    requires { ⌜ ((m : ℕ) × (to ≡ from + suc m + suc m)) × (to ≤ 1024) × ((j : ℕ) → getD (now sources) j 0 < 512) × (flowSum (now sources) (now arcs) (now cells) from (to - from) ≤ 2 ^ 56) ⌝ }
+    requires { ⌜ ((m : ℕ) × (to ≡ from + suc m + suc m)) × (to ≤ 1040) × ((j : ℕ) → getD (now sources) j 0 < 512) × (flowSum (now sources) (now arcs) (now cells) from (to - from) ≤ 2 ^ 56) ⌝ }
     ensures { λ r. ⌜ r ≡ flowSum (now (sources .entry)) (now (arcs .entry)) (now (cells .entry)) from (to - from) ⌝ }
 {
     let mut w = pair(sources, arcs, cells, from);
@@ -138,8 +138,8 @@ fn flow(
 }
 
 // What the arc at a place of the list and the one after it bring.
-fn pair(sources: &[u16; 1024], arcs: &[u64; 1024], cells: &[u64; 512], j: usize) -> u64
-    requires { ⌜ (j + 2 ≤ 1024) × ((i : ℕ) → getD (now sources) i 0 < 512) × (flowSum (now sources) (now arcs) (now cells) j 2 ≤ 2 ^ 56) ⌝ }
+fn pair(sources: &[u16; 1040], arcs: &[u64; 1040], cells: &[u64; 512], j: usize) -> u64
+    requires { ⌜ (j + 2 ≤ 1040) × ((i : ℕ) → getD (now sources) i 0 < 512) × (flowSum (now sources) (now arcs) (now cells) j 2 ≤ 2 ^ 56) ⌝ }
     ensures { λ r. ⌜ r ≡ flowSum (now (sources .entry)) (now (arcs .entry)) (now (cells .entry)) j 2 ⌝ }
 {
     let a = sources[j] as usize;

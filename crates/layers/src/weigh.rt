@@ -3,41 +3,51 @@ use diagram::Node;
 use diagram::Plan;
 use reading::child_of;
 use reading::position_of;
+use scoring::Roots;
 use scoring::high_weight;
 use scoring::mark_at;
 use scoring::value_of;
 ghost use mathlib.Core.Path.{_≡_};
-ghost use mathlib.Core.Bool.{cond};
 ghost use Prim.Native.Nat.{ℕ, _+_, _-_, _*_, _≤_, _<_, _^_};
 ghost use lib.ListN.{length, getD, set, replicate};
-ghost use lib.Dec.{eqb};
 ghost use Rattle.diagram.specs.Table.{sequence};
 ghost use Rattle.scoring.specs.Passes.{over, highInForce, markAtNode};
 ghost use Rattle.layers.specs.Flows.{lowKept};
-ghost use Rattle.layers.specs.Weighed.{Weighted, Numbered, lossOf};
+ghost use Rattle.layers.specs.Weighed.{Brought, Weighted, Numbered, lossOf};
 
 // The weights of the arcs of the first n records, by the arcs' numbers: 0 where the plan that the search starts from closes
-// the arc. The arc 1, which brings the root its weight, weighs 1, and the number 0, which no arc has, 0. The positions are a table's, and so below 64:
-// the search hands in an accepted table's.
+// the arc, and 0 for the number 0, which no arc has. The positions are a table's, and so below 64: the search hands in an accepted
+// table's.
 pub fn weigh_arcs(
     n: usize,
     positions: &[u8; 256],
     marks: &[u8; 64],
     high_arcs: &[u64; 256],
     low_arcs: &[u64; 256],
-    weights: &mut [u64; 512],
+    weights: &mut [u64; 544],
 )
-    requires { ⌜ (n ≤ 254) × ((k : ℕ) → getD (now positions) k 0 < 64) × (length (now weights) ≡ 512) ⌝ }
+    requires { ⌜ (n ≤ 254) × ((k : ℕ) → getD (now positions) k 0 < 64) × (length (now weights) ≡ 544) ⌝ }
     ensures { λ _. ⌜ Weighted n (λ (k : ℕ). highInForce (markAtNode (now (positions .entry)) (now (marks .entry)) k) (getD (now («high_arcs» .entry)) (k + 2) 0)) (λ (k : ℕ). lowKept (markAtNode (now (positions .entry)) (now (marks .entry)) k) (getD (now («low_arcs» .entry)) (k + 2) 0)) (now (weights .exit)) ⌝ }
 {
     weights[0] = 0;
-    weights[1] = 1;
     let mut k = 0;
     while k < n {
         let mark = mark_of(positions, marks, Node::of_record(k));
         weights[k + 2] = high_weight(mark, high_arcs[k + 2]);
         weights[k + 258] = low_kept(mark, low_arcs[k + 2]);
         k += 1;
+    }
+}
+
+// The weights of the roots' arcs, each what comes to the root. There are at most 16.
+pub fn weigh_roots(roots: Roots, weights: &mut [u64; 544])
+    requires { ⌜ (roots .count ≤ 16) × (length (now weights) ≡ 544) ⌝ }
+    ensures { λ _. ⌜ Brought (roots .count) (roots .weights) (now (weights .entry)) (now (weights .exit)) ⌝ }
+{
+    let mut i = 0;
+    while i < roots.count {
+        weights[i + 514] = roots.weights[i + 2];
+        i += 1;
     }
 }
 
@@ -56,14 +66,13 @@ fn low_kept(mark: u8, arc: u64) -> u64
     if mark == Plan::TAKEN { 0 } else { arc }
 }
 
-// The cells of the arcs of the first n nodes of the order, by the arcs' numbers: `lay_arcs` hands in zeros, and an order in which
-// no node stands twice, as `order_records` leaves it.
-pub fn number_cells(n: usize, order: &[u16; 1024], numbers: &mut [u16; 512])
+// The cells of the arcs of the first n nodes of the order, by the arcs' numbers: `lay_arcs` hands in ones, the cell of
+// the roots' arcs, and an order in which no node stands twice, as `order_records` leaves it.
+pub fn number_cells(n: usize, order: &[u16; 1040], numbers: &mut [u16; 544])
     requires nodes { ⌜ (n ≤ 254) × ((i : ℕ) → i < n → (2 ≤ getD (now order) i 0) × (getD (now order) i 0 < 256)) × ((i j : ℕ) → i < n → j < n → getD (now order) i 0 ≡ getD (now order) j 0 → i ≡ j) ⌝ }
-    requires zeros { ⌜ now numbers ≡ replicate 512 0 ⌝ }
+    requires ones { ⌜ now numbers ≡ replicate 544 1 ⌝ }
     ensures { λ _. ⌜ Numbered n (now (order .entry)) (now (numbers .exit)) ⌝ }
 {
-    numbers[1] = 1;
     let mut i = 0;
     while i < n {
         let node = node_at(order, i);
@@ -73,8 +82,8 @@ pub fn number_cells(n: usize, order: &[u16; 1024], numbers: &mut [u16; 512])
 }
 
 // Writes the cells of the arcs of the node at a rank.
-fn number_node(numbers: &mut [u16; 512], node: Node, i: usize)
-    requires { ⌜ (i < 254) × (length (now numbers) ≡ 512) ⌝ }
+fn number_node(numbers: &mut [u16; 544], node: Node, i: usize)
+    requires { ⌜ (i < 254) × (length (now numbers) ≡ 544) ⌝ }
     ensures { λ _. ⌜ now (numbers .exit) ≡ set (set (now (numbers .entry)) (node .0) (i + 2)) (node .0 + 256) (i + 258) ⌝ }
 {
     let m = node.number();
@@ -83,8 +92,8 @@ fn number_node(numbers: &mut [u16; 512], node: Node, i: usize)
 }
 
 // The weights of the first `count` arcs of a list, which has arcs' numbers alone, as `order_arcs` leaves it.
-pub fn pick_arcs(count: usize, list: &[u16; 1024], weights: &[u64; 512], arcs: &mut [u64; 1024])
-    requires { ⌜ (count ≤ 1024) × (length (now arcs) ≡ 1024) × ((j : ℕ) → getD (now list) j 0 < 512) ⌝ }
+pub fn pick_arcs(count: usize, list: &[u16; 1040], weights: &[u64; 544], arcs: &mut [u64; 1040])
+    requires { ⌜ (count ≤ 1040) × (length (now arcs) ≡ 1040) × ((j : ℕ) → getD (now list) j 0 < 544) ⌝ }
     ensures { λ _. ⌜ now (arcs .exit) ≡ over (sequence (λ (j : ℕ). getD (now (weights .entry)) (getD (now (list .entry)) j 0) 0) 0 count) (now (arcs .entry)) ⌝ }
 {
     let mut j = 0;
@@ -96,8 +105,8 @@ pub fn pick_arcs(count: usize, list: &[u16; 1024], weights: &[u64; 512], arcs: &
 }
 
 // The cells of the first `count` arcs of such a list.
-pub fn pick_cells(count: usize, list: &[u16; 1024], numbers: &[u16; 512], sources: &mut [u16; 1024])
-    requires { ⌜ (count ≤ 1024) × (length (now sources) ≡ 1024) × ((j : ℕ) → getD (now list) j 0 < 512) ⌝ }
+pub fn pick_cells(count: usize, list: &[u16; 1040], numbers: &[u16; 544], sources: &mut [u16; 1040])
+    requires { ⌜ (count ≤ 1040) × (length (now sources) ≡ 1040) × ((j : ℕ) → getD (now list) j 0 < 544) ⌝ }
     ensures { λ _. ⌜ now (sources .exit) ≡ over (sequence (λ (j : ℕ). getD (now (numbers .entry)) (getD (now (list .entry)) j 0) 0) 0 count) (now (sources .entry)) ⌝ }
 {
     let mut j = 0;
@@ -117,7 +126,7 @@ pub fn weigh_losses(
     low: &[u8; 256],
     low_arcs: &[u64; 256],
     values: &[u64; 256],
-    order: &[u16; 1024],
+    order: &[u16; 1040],
     losses: &mut [u64; 256],
 )
     requires sizes { ⌜ (n ≤ 254) × (length (now losses) ≡ 256) × ((k : ℕ) → getD (now positions) k 0 < 64) × ((i : ℕ) → i < n → getD (now order) i 0 < 256) ⌝ }
@@ -155,8 +164,8 @@ fn loss_of(
 }
 
 // The node at a rank. Whoever calls has a rank of the order.
-fn node_at(order: &[u16; 1024], i: usize) -> Node
-    requires { ⌜ (i < 1024) × (getD (now order) i 0 < 256) ⌝ }
+fn node_at(order: &[u16; 1040], i: usize) -> Node
+    requires { ⌜ (i < 1040) × (getD (now order) i 0 < 256) ⌝ }
     ensures { λ r. ⌜ r .0 ≡ getD (now (order .entry)) i 0 ⌝ }
 {
     Node::new(order[i] as u8)

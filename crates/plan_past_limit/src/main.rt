@@ -1,4 +1,4 @@
-// The program `plan`, run on an input that is too long: 1,300 bytes, of which the first 1,264 are a job that would be answered
+// The program `plan`, run on an input that is too long: 1,364 bytes, of which the first 1,328 are a job that would be answered
 // (tests/make_limits.py). Then it prints how many bytes `plan` has left unread.
 fn main() {
     console::run();

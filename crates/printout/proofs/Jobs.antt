@@ -109,12 +109,12 @@ pub cost-is : (s p kits : List ℕ) → kits ≡ tableOf s .kits ++ replicate (2
 unfolding cost
 cost-is s p kits e long = rw e (cost-padded (tableOf s .kits) _ p (long ∙ sym (kits-length s)))
 
--- at most 1,265 bytes are read
-pub printed : (input : List ℕ) {read a b : List ℕ} {j : ℕ} → read ≡ take 1265 input → Wrote a 0 b j (searchText (tableOf (drop 4 read)) (programOutcome read)) → Wrote a 0 b j (printout input)
+-- at most 1,329 bytes are read
+pub printed : (input : List ℕ) {read a b : List ℕ} {j : ℕ} → read ≡ take 1329 input → Wrote a 0 b j (searchText (tableOf (drop 4 read)) (programOutcome read)) → Wrote a 0 b j (printout input)
 unfolding printout
 printed input e w = rw e at w
 
 -- so what follows them is not printed
-pub printed-part : (input : List ℕ) {n : ℕ} → 1265 ≤ n → printout (take n input) ≡ printout input
+pub printed-part : (input : List ℕ) {n : ℕ} → 1329 ≤ n → printout (take n input) ≡ printout input
 unfolding printout
-printed-part input {n} h = rw (take-take 1265 n input h) refl
+printed-part input {n} h = rw (take-take 1329 n input h) refl

@@ -27,37 +27,37 @@ pub struct Text {
     pub count: usize,
 }
 
-// What is printed for an input, of which at most 1,265 bytes are read: a job word, then a table.
+// What is printed for an input, of which at most 1,329 bytes are read: a job word, then a table.
 pub fn print(input: &[u8]) -> Text
     ensures text { λ r. ⌜ r .bytes ≡ printout (now (input .entry)) ++ replicate (1024 - r .count) 0 ⌝ }
     ensures count { λ r. ⌜ (r .count ≡ length (printout (now (input .entry)))) × (r .count ≤ 1024) ⌝ }
 {
     let mut bytes = [0u8; 1024];
-    let n = at_most_1265(input);
+    let n = at_most_1329(input);
     let count = put_job(&mut bytes[..], &input[..n]);
     Text { bytes, count }
 }
 
-// What is printed where the first n bytes of the program's array have been read. An n above 1,265 counts as 1,265.
-pub fn print_read(input: &[u8; 1265], n: usize) -> Text
+// What is printed where the first n bytes of the program's array have been read. An n above 1,329 counts as 1,329.
+pub fn print_read(input: &[u8; 1329], n: usize) -> Text
     ensures text { λ r. ⌜ r .bytes ≡ printout (take n (now (input .entry))) ++ replicate (1024 - r .count) 0 ⌝ }
     ensures count { λ r. ⌜ (r .count ≡ length (printout (take n (now (input .entry))))) × (r .count ≤ 1024) ⌝ }
 {
     let all = &input[..];
-    if n < 1265 {
+    if n < 1329 {
         return print(&all[..n]);
     }
     print(all)
 }
 
 // How many bytes of an input are read.
-fn at_most_1265(input: &[u8]) -> usize
-    ensures { λ r. ⌜ (r ≤ length (now (input .entry))) × (take r (now (input .entry)) ≡ take 1265 (now (input .entry))) ⌝ }
+fn at_most_1329(input: &[u8]) -> usize
+    ensures { λ r. ⌜ (r ≤ length (now (input .entry))) × (take r (now (input .entry)) ≡ take 1329 (now (input .entry))) ⌝ }
 {
-    if input.len() < 1265 {
+    if input.len() < 1329 {
         input.len()
     } else {
-        1265
+        1329
     }
 }
 

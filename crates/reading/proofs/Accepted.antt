@@ -15,7 +15,7 @@ use lib.Dec.{eqb, leb}
 use borrow.Author.Tests.{ltb-false, leb-true, not-false}
 use Rattle.diagram.specs.Words.{wordAt, kind, fieldP, fieldQ, fieldR}
 use Rattle.diagram.specs.Table.{Variable, choice, chance, variableOf, recordOf, sequence, tableOf, variableCount, recordCount, choiceCount, scaleOf, scale}
-use Rattle.diagram.specs.Checks.{firstPlace, headingFault, isVariableWord, variableFault, choiceFault, scaleFault, isMonotoneAt, monotoneFault}
+use Rattle.diagram.specs.Checks.{firstPlace, headingFault, isVariableWord, variableFault, choiceFault, scaleFault, isMonotoneAt, monotoneFault, placeZero, rewardFault}
 use Rattle.diagram.proofs.Every.{both}
 use Rattle.diagram.proofs.Places.{sequence-length, none-at}
 use Rattle.diagram.proofs.Checked.{Passed}
@@ -102,6 +102,16 @@ pub passed-choices : {s : List ℕ} → Passed s → choiceCount (tableOf s .var
 unfolding choiceFault
 passed-choices {s} h = whole-within choiceCount 20 s (h .heading) (h .choices)
 
+pub passed-product : {s : List ℕ} → Passed s → scaleOf (tableOf s .variables) ≤ 2 ^ 56
+unfolding scaleFault
+passed-product {s} h = whole-within scaleOf (2 ^ 56) s (h .heading) (h .scale)
+
 pub passed-scale : {s : List ℕ} → Passed s → scale (tableOf s) ≤ 2 ^ 56
-unfolding scaleFault scale
-passed-scale {s} h = whole-within scaleOf (2 ^ 56) s (h .heading) (h .scale)
+unfolding rewardFault placeZero
+passed-scale {s} h = ltb-false (2 ^ 56) _ (no-fault _ (h .reward))
+  where
+    no-fault : (b : Bool) → placeZero b ≡ none → b ≡ false
+    no-fault false e = refl
+    no-fault true e =
+        let z : _≡_ {A = ℕ} 0 1 = cc in
+        absurd (omega arith)

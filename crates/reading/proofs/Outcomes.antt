@@ -1,5 +1,5 @@
 -- What a check's enum tells of the list of checks: where it finds nothing the list goes on, and where it finds a place the list stops. What reading answers
--- and what the arrays hold that are lent to it, after the checks 11 to 17 and after all.
+-- and what the arrays hold that are lent to it, after the checks 11 to 17, 26 and 27 and after all.
 -- Assumes nothing.
 use Prim.Native.Nat.{ℕ}
 use native.Mathlib.Omega.{arith}
@@ -8,7 +8,7 @@ use mathlib.Core.Option.{Option, none, some}
 use mathlib.Core.List.{List, [], _∷_}
 use lib.ListN.{take, drop}
 use Rattle.diagram.specs.Checks.{Check, monotoneFault, tableChecks}
-use Rattle.diagram.specs.Table.{Record, tableOf, variableCount, recordCount, choiceCount, scaleOf, scale}
+use Rattle.diagram.specs.Table.{Record, tableOf, variableCount, recordCount, choiceCount, scale}
 use Rattle.diagram.specs.Services.{Outcome, refused, answered, checked, written, reading, readOutcome, Reading}
 use Rattle.diagram.proofs.Checked.{checked-passes, checked-stops, checked-end, checked-append, checked-answered, checked-refused, answered-not-refused, first-passed, Passed, read-passed, read-reading}
 use Rattle.diagram.specs.declared.refusal.Refusal.{Refusal}
@@ -69,8 +69,8 @@ module _ (c : Check) (cs : List Check) (s : List ℕ) where
   stops i e = sym (checked-stops c cs _ s i e)
 
 -- the four numbers of an accepted file
-pub summary-is : (s : List ℕ) {v n c x : ℕ} → v ≡ variableCount s → n ≡ recordCount s → c ≡ choiceCount (tableOf s .variables) → x ≡ scaleOf (tableOf s .variables) → answered (record { variables = v; records = n; choices = c; scale = x }) ≡ answered (reading s)
-unfolding reading scale
+pub summary-is : (s : List ℕ) {v n c x : ℕ} → v ≡ variableCount s → n ≡ recordCount s → c ≡ choiceCount (tableOf s .variables) → x ≡ scale (tableOf s) → answered (record { variables = v; records = n; choices = c; scale = x }) ≡ answered (reading s)
+unfolding reading
 summary-is s ev en ec ex = rw (ev, en, ec, ex)
 
 -- ---------------------------------------------------------------------------
@@ -90,21 +90,21 @@ module _ {o : Outcome Reading} {r : ReadAnswer} (promise : outcomeOf r ≡ o) wh
   table-as t e = sym promise ∙ rw e
 
 -- ---------------------------------------------------------------------------
--- Reading after the checks 11 to 17
+-- Reading after the checks 11 to 17, 26 and 27
 
 module _ (s : List ℕ) where
   -- a file that they refuse is refused
   pub shape-refuses : (n i : ℕ) → shapeOutcome s ≡ refused n i → readOutcome s ≡ refused n i
   unfolding readOutcome shapeOutcome tableChecks
   shape-refuses n i e =
-      checked-append s (take 7 tableChecks) (drop 7 tableChecks) _ ∙ checked-refused s (take 7 tableChecks) reading n i _ e
+      checked-append s (take 9 tableChecks) (drop 9 tableChecks) _ ∙ checked-refused s (take 9 tableChecks) reading n i _ e
 
   module _ (a : Reading) (e : shapeOutcome s ≡ answered a) where
     -- of a file that they let through check 18 is left
     check-18 : readOutcome s ≡ readFrom (record { number = 18; fault = monotoneFault } ∷ []) s
     unfolding readOutcome shapeOutcome tableChecks
     check-18 =
-        checked-append s (take 7 tableChecks) (drop 7 tableChecks) _ ∙ checked-answered s (take 7 tableChecks) reading a _ e
+        checked-append s (take 9 tableChecks) (drop 9 tableChecks) _ ∙ checked-answered s (take 9 tableChecks) reading a _ e
 
     pub stops-18 : (i : ℕ) → monotoneFault s ≡ some i → refused 18 i ≡ readOutcome s
     stops-18 i q = stops _ [] s i q ∙ sym check-18
@@ -112,7 +112,7 @@ module _ (s : List ℕ) where
     pub past-18 : monotoneFault s ≡ none → answered a ≡ readOutcome s
     unfolding shapeOutcome
     past-18 q =
-        sym e ∙ checked-answered s (take 7 tableChecks) reading a _ e ∙ sym (check-18 ∙ goes-on _ [] s q ∙ checked-end _ s)
+        sym e ∙ checked-answered s (take 9 tableChecks) reading a _ e ∙ sym (check-18 ∙ goes-on _ [] s q ∙ checked-end _ s)
 
     -- the checks 12, 13 and 17 of a file that they let through
     pub shape-shaped : Shaped s

@@ -16,9 +16,9 @@ outcomeOf (Table t) =
     answered (record { variables = t .variables; records = t .records; choices = t .choices; scale = t .scale })
 outcomeOf (Refused r) = refused (r .number) (r .place)
 
--- What comes of the checks 11 to 17, the checks of a table but for the last: a refusal, or what reading answers
+-- What comes of the checks 11 to 17, 26 and 27, the checks of a table but for the last: a refusal, or what reading answers
 unfoldable pub shapeOutcome : List ℕ → Outcome Reading
-shapeOutcome s = checked (take 7 tableChecks) (λ file. answered (reading file)) s
+shapeOutcome s = checked (take 9 tableChecks) (λ file. answered (reading file)) s
 
 -- A number where a check finds no fault, and else the place of the fault
 unfoldable pub boundedBy : Option ℕ → ℕ → Bounded

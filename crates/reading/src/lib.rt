@@ -1,6 +1,7 @@
-// Reading a table file: the checks 11 to 18 of document 01, in its order, each over the whole file before the next.
+// Reading a table file: the checks 11 to 18, 26 and 27, in the papers' order, each over the whole file before the next.
 mod answer;
 mod records;
+mod roots;
 mod variables;
 mod words;
 
@@ -16,6 +17,9 @@ use implication::monotone_fault;
 pub use implication::position_of;
 pub use implication::record_count;
 pub use implication::variable_count;
+pub use roots::Root;
+pub use roots::root_at;
+pub use roots::root_count;
 ghost use mathlib.Core.Path.{_≡_};
 ghost use lib.ListN.{length};
 ghost use Rattle.diagram.specs.Table.{Record, variableCount};
@@ -33,7 +37,7 @@ pub fn read(file: &[u8]) -> ReadAnswer
     read_records(file, &mut positions, &mut high, &mut low)
 }
 
-// Reads a table and copies its records to the arrays that are lent, as `decode` does. A file that one of the checks 11 to 17
+// Reads a table and copies its records to the arrays that are lent, as `decode` does. A file that a check before 18
 // turns away leaves them as they were. The lengths are the arrays' own; the callers lend local arrays.
 pub fn read_records(
     file: &[u8],
@@ -58,7 +62,7 @@ pub fn read_records(
     ReadAnswer::Table(t)
 }
 
-// The checks 11 to 17, which come before the records are copied, and the table's numbers.
+// The checks 11 to 17, 26 and 27, which come before the records are copied, and the table's numbers.
 fn read_shape(file: &[u8]) -> ReadAnswer
     ensures { λ r. ⌜ outcomeOf r ≡ shapeOutcome (now (file .entry)) ⌝ }
 {
@@ -78,13 +82,20 @@ fn read_shape(file: &[u8]) -> ReadAnswer
         Bounded::Within(choices) => choices,
         Bounded::Above(place) => return refuse(15, place),
     };
-    let scale = match variables::scale(file) {
-        Bounded::Within(scale) => scale,
+    let product = match variables::product(file) {
+        Bounded::Within(product) => product,
         Bounded::Above(place) => return refuse(16, place),
     };
     if let Fault::At(place) = records::record_fault(file) {
         return refuse(17, place);
     }
+    if let Fault::At(place) = roots::root_fault(file) {
+        return refuse(26, place);
+    }
+    let scale = match roots::scale(file, product) {
+        Bounded::Within(scale) => scale,
+        Bounded::Above(place) => return refuse(27, place),
+    };
     ReadAnswer::Table(Summary {
         variables: variable_count(file) as usize,
         records: record_count(file),

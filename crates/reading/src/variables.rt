@@ -80,7 +80,7 @@ pub fn choices(file: &[u8]) -> Bounded
 }
 
 // Check 16: the product of b. Each product is tested before it is made.
-pub fn scale(file: &[u8]) -> Bounded
+pub fn product(file: &[u8]) -> Bounded
     ensures { λ r. ⌜ r ≡ boundedBy (scaleFault (now (file .entry))) (scaleOf (tableOf (now (file .entry)) .variables)) ⌝ }
 {
     let v = variable_count(file);
@@ -101,7 +101,7 @@ pub fn scale(file: &[u8]) -> Bounded
 }
 
 // Whether a product of two numbers is above 2^56, found without making it.
-fn exceeds(x: u64, b: u64) -> bool
+pub fn exceeds(x: u64, b: u64) -> bool
     ensures { λ r. ⌜ r ≡ ltb (2 ^ 56) (x * b) ⌝ }
 {
     if b == 0 {

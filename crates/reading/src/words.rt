@@ -8,8 +8,18 @@ use implication::Fault;
 use implication::record_count;
 use implication::variable_count;
 ghost use mathlib.Core.Path.{_≡_};
+ghost use Prim.Native.Nat.{_<_};
+ghost use Rattle.diagram.specs.Table.{rootCount};
 ghost use Rattle.diagram.specs.Checks.{lengthFault, isHeading, headingFault, countFault};
 ghost use Rattle.implication.specs.Answer.{faultOf};
+
+// The number of root words: R of the heading.
+pub fn root_word_count(file: &[u8]) -> usize
+    ensures count { λ r. ⌜ r ≡ rootCount (now (file .entry)) ⌝ }
+    ensures small { λ r. ⌜ r < 2048 ⌝ }
+{
+    field_r(word_at(file, 0)) as usize
+}
 
 // Check 11.
 pub fn length_fault(file: &[u8]) -> Fault
@@ -19,7 +29,7 @@ pub fn length_fault(file: &[u8]) -> Fault
     if n < 4 {
         return Fault::At(0);
     }
-    if 1260 < n {
+    if 1324 < n {
         return Fault::At(0);
     }
     if n % 4 == 0 {
@@ -60,7 +70,7 @@ fn is_heading(w: u32) -> bool
     if 254 < n {
         return false;
     }
-    field_r(w) == 0
+    field_r(w) <= 16
 }
 
 // Check 13.
@@ -69,7 +79,8 @@ pub fn count_fault(file: &[u8]) -> Fault
 {
     let v = variable_count(file) as usize;
     let n = record_count(file);
-    if file.len() == 4 * (1 + v + n) {
+    let r = root_word_count(file);
+    if file.len() == 4 * (1 + v + n + r) {
         Fault::Nowhere
     } else {
         Fault::At(0)

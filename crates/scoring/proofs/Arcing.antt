@@ -21,7 +21,7 @@ use Rattle.implication.specs.Nodes.{column}
 use Rattle.implication.proofs.Choosing.{variables-length}
 use Rattle.implication.proofs.Columns.{front-position}
 use Rattle.implication.proofs.Pairing.{column-at, variable-at}
-use Rattle.reading.proofs.Accepted.{passed-variables, passed-formed, passed-shares, passed-scale}
+use Rattle.reading.proofs.Accepted.{passed-variables, passed-formed, passed-shares, passed-product}
 use Rattle.scoring.specs.Value.{place, gap, variableAt, highShare, lowShare, highArc, lowArc}
 use Rattle.scoring.specs.Passes.{over, byNode, products, sharesBy, highShares, lowShares, arcWeight, Weighable, Decoded}
 use Rattle.scoring.proofs.Over.{over-ends, byNode-length, over-byNode}
@@ -145,7 +145,7 @@ suffix-down s p h e f =
 
 pub suffix-fits : {s : List ℕ} → Passed s → (x : ℕ) → suffix s x ≤ 2 ^ 56
 unfolding scale
-suffix-fits h x = omega (arith, suffix-le (passed-shares h) x, passed-scale h)
+suffix-fits h x = omega (arith, suffix-le (passed-shares h) x, passed-product h)
 
 -- ---------------------------------------------------------------------------
 -- The weight of an arc

@@ -6,4 +6,5 @@ pub mod FullPlans
 pub mod Forcing
 pub mod Passing
 pub mod Bounding
+pub mod HeldRoots
 pub mod Requests

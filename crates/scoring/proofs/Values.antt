@@ -10,13 +10,13 @@ use mathlib.Core.Bool.{Bool, true, false, cond}
 use mathlib.Core.List.{List, [], _∷_, _++_, tail, append-assoc}
 use lib.ListN.{length, getD, take, drop, replicate, length-append, length-drop, length-replicate}
 use lib.Seq.{drop-cons, drop-drop, take-add, drop-length, append-snoc, getD-at}
-use Rattle.diagram.specs.Table.{Variable, choice, chance, Table, recordAt, choiceCount, scaleOf}
-use Rattle.diagram.specs.Score.{isTaken, truth, total, scoreFrom}
+use Rattle.diagram.specs.Table.{Variable, choice, chance, Table, recordAt, choiceCount, scaleOf, scale}
+use Rattle.diagram.specs.Score.{isTaken, truth, total, scoreFrom, score}
 use Rattle.diagram.specs.Checks.{positionOf}
 use Rattle.diagram.proofs.Truth.{Formed, truth-step, truth-false, truth-true}
 use Rattle.diagram.proofs.Locality.{position-le, position-less, child-later, truth-local}
-use Rattle.diagram.proofs.FirstVariable.{total-nil, total-choice, total-chance, total-same, Shares, no-shares, choice-shares, chance-shares, total-le}
-use Rattle.scoring.specs.Value.{place, marksFrom, valueFrom, value, gap, variableAt, markAt, highShare, lowShare, highWeight, lowWeight}
+use Rattle.diagram.proofs.FirstVariable.{total-nil, total-choice, total-chance, total-same, Shares, no-shares, choice-shares, chance-shares, total-le, rewarded-same, rewarded-all}
+use Rattle.scoring.specs.Value.{place, marksFrom, valueFrom, value, gap, rootedSum, variableAt, markAt, highShare, lowShare, highWeight, lowWeight}
 
 -- ---------------------------------------------------------------------------
 -- Gaps
@@ -210,3 +210,15 @@ module _ (t : Table) (h : Formed (length (t .variables)) (t .records)) (shares :
   pub score-value : (p : List ℕ) (n : ℕ) → scoreFrom t p n ≡ gap t 0 (place t n) * value t p n
   unfolding scoreFrom valueFrom marksFrom choiceCount
   score-value p n = value-skip p 0 n (omega arith)
+
+  -- a score is the sum over the roots of what comes to them times their values
+  pub score-rooted : (p : List ℕ) → score t p ≡ rootedSum t (value t p)
+  unfolding score rootedSum
+  score-rooted p = rewarded-same _ _ (t .roots) (score-value p)
+
+  -- and the scale is the sum with every value at its largest
+  pub scale-rooted : rootedSum t (λ n. scaleOf (drop (place t n) (t .variables))) ≡ scale t
+  unfolding rootedSum scale place
+  scale-rooted =
+      rewarded-same _ (λ _. scaleOf (t .variables)) (t .roots) (λ n. gap-scale t 0 (place t n) (omega arith) (position-le h n))
+      ∙ rewarded-all (scaleOf (t .variables)) (t .roots)

@@ -5,11 +5,13 @@ use mathlib.Core.Bool.{cond, _||_}
 use mathlib.Core.List.{List, [], _∷_, _++_}
 use lib.ListN.{length, getD, drop}
 use lib.Dec.{eqb}
-use Rattle.diagram.specs.Table.{Variable, Table, Record, chance, sequence, tableOf, variableCount, isChoice, choiceCount, scaleOf}
+use Rattle.diagram.specs.Table.{Variable, Table, Record, chance, sequence, tableOf, variableCount, isChoice, choiceCount, scaleOf, scale}
 use Rattle.diagram.proofs.Truth.{Formed}
 use Rattle.diagram.proofs.FirstVariable.{Shares}
 use Rattle.implication.specs.Nodes.{column}
-use Rattle.scoring.specs.Value.{marksFrom, highShare, lowShare, highArc, lowArc}
+use Rattle.reading.specs.Roots.{rootAt}
+use Rattle.scoring.specs.declared.roots.Roots.{Roots}
+use Rattle.scoring.specs.Value.{place, marksFrom, gap, highShare, lowShare, highArc, lowArc}
 
 -- A list written over the front of another
 unfoldable pub over : List ℕ → List ℕ → List ℕ
@@ -55,6 +57,23 @@ pub record Decoded (s ps hs ls : List ℕ) : Type 0 where
   pub positions : ps ≡ column (variableCount s) (λ (r : Record). r .position) (tableOf s .records)
   pub high : hs ≡ column 0 (λ (r : Record). r .hi) (tableOf s .records)
   pub low : ls ≡ column 0 (λ (r : Record). r .lo) (tableOf s .records)
+
+-- The first n roots of a table in arrays: at i + 2 the node of root i, and what comes to it, its reward times b of each variable before the node
+pub record RootsHeldTo (t : Table) (n : ℕ) (nodes weights : List ℕ) : Type 0 where
+  pub within : (i : ℕ) → i < n → (2 ≤ getD nodes (i + 2) 0) × (getD nodes (i + 2) 0 < length (t .records) + 2)
+  pub node : (i : ℕ) → i < n → getD nodes (i + 2) 0 ≡ rootAt (t .roots) i .node
+  pub weight : (i : ℕ) → i < n → getD weights (i + 2) 0 ≡ rootAt (t .roots) i .reward * gap t 0 (place t (rootAt (t .roots) i .node))
+
+-- All roots of a table
+pub record RootsHeld (t : Table) (rs : Roots) : Type 0 where
+  pub all : rs .count ≡ length (t .roots)
+  pub few : rs .count ≤ 16
+  pub held : RootsHeldTo t (rs .count) (rs .nodes) (rs .weights)
+
+-- The sum, over the first i roots, of what comes to a root times its node's value
+unfoldable pub rootSum : Roots → (values : List ℕ) → (i : ℕ) → ℕ
+rootSum rs vs zero = 0
+rootSum rs vs (suc i) = rootSum rs vs i + getD (rs .weights) (i + 2) 0 * getD vs (getD (rs .nodes) (i + 2) 0) 0
 
 -- ---------------------------------------------------------------------------
 -- What is computed once for a plan
@@ -113,6 +132,7 @@ pub record Marked (t : Table) (p : List ℕ) (n : ℕ) (ps hs ls ha la ms : List
   pub formed : Formed (length (t .variables)) (t .records)
   pub shares : Shares (t .variables)
   pub bounded : scaleOf (t .variables) ≤ 2 ^ 56
+  pub scaled : scale t ≤ 2 ^ 56
   pub few : length (t .variables) < 64
   pub size : (n ≡ length (t .records)) × (n ≤ 254)
   pub positions : ps ≡ column (length (t .variables)) (λ (r : Record). r .position) (t .records)

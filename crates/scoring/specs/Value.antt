@@ -5,7 +5,7 @@ use mathlib.Core.Bool.{false, cond}
 use mathlib.Core.List.{List, _++_}
 use lib.ListN.{length, getD, take, drop, replicate}
 use Rattle.diagram.specs.Table.{Variable, choice, chance, Table, recordAt, choiceCount, scaleOf}
-use Rattle.diagram.specs.Score.{isTaken, truth, total}
+use Rattle.diagram.specs.Score.{isTaken, truth, total, rewarded}
 use Rattle.diagram.specs.Checks.{positionOf}
 
 -- The position of a node of a table
@@ -27,6 +27,11 @@ value t p n = valueFrom t p (place t n) n
 -- The product of b over the positions from x up to y, y itself not counted
 unfoldable pub gap : Table → (x y : ℕ) → ℕ
 gap t x y = scaleOf (take (y - x) (drop x (t .variables)))
+
+-- The sum, over the roots, of the reward times b of each variable before the root's node times a number of the node. With the values of nodes under a
+-- plan it is the plan's score.
+unfoldable pub rootedSum : Table → (number : ℕ → ℕ) → ℕ
+rootedSum t number = rewarded (λ n. gap t 0 (place t n) * number n) (t .roots)
 
 -- The variable of record k
 unfoldable pub variableAt : Table → (k : ℕ) → Variable

@@ -3,17 +3,19 @@ use crate::force::in_force;
 use crate::force::marks_by_position;
 use crate::layout::lay_out;
 use crate::pass::pass_up;
+use crate::roots::Roots;
+use crate::roots::root_sum;
 use diagram::Node;
 use reading::record_count;
 ghost use mathlib.Core.Path.{_≡_};
 ghost use mathlib.Core.List.{List};
 ghost use Prim.Native.Nat.{ℕ, _+_, _≤_};
 ghost use lib.ListN.{length, getD};
-ghost use Rattle.diagram.specs.Table.{Table, sequence, tableOf, root, choiceCount};
+ghost use Rattle.diagram.specs.Table.{Table, sequence, tableOf, choiceCount};
 ghost use Rattle.diagram.specs.Plans.{openTaken, upperBound};
 ghost use Rattle.diagram.proofs.Checked.{Passed};
-ghost use Rattle.scoring.specs.Value.{place, value, gap};
-ghost use Rattle.scoring.specs.Passes.{over, Decoded, Marked};
+ghost use Rattle.scoring.specs.Value.{value};
+ghost use Rattle.scoring.specs.Passes.{over, Decoded, RootsHeld, Marked};
 
 // The score with all open lines taken, of a file that has passed every check and a plan that checks 21 and 22 let through. The
 // arrays hold the file's records.
@@ -32,7 +34,7 @@ pub fn upper_bound(
     let n = record_count(file);
     let mut high_arcs = [0u64; 256];
     let mut low_arcs = [0u64; 256];
-    let weight = lay_out(file, n, positions, high, low, &mut high_arcs, &mut low_arcs);
+    let roots = lay_out(file, n, positions, high, low, &mut high_arcs, &mut low_arcs);
     let marks = marks_by_position(file, plan);
     bound_of(
         n,
@@ -42,12 +44,12 @@ pub fn upper_bound(
         &high_arcs,
         &low_arcs,
         &marks,
-        weight,
+        roots,
     )
 }
 
-// The score with all open lines taken, from the arrays of a table and a plan, as `read_records`, `lay_out` and
-// `marks_by_position` leave them; the weight handed in is the root's.
+// The score with all open lines taken, from the arrays of a table, its roots and a plan, as `read_records`, `lay_out` and
+// `marks_by_position` leave them.
 pub fn bound_of(
     n: usize,
     positions: &[u8; 256],
@@ -56,10 +58,10 @@ pub fn bound_of(
     high_arcs: &[u64; 256],
     low_arcs: &[u64; 256],
     marks: &[u8; 64],
-    weight: u64,
+    roots: Roots,
 ) -> u64
-    requires { ⌜ ((t : Table) × (p : List ℕ) × Marked t p n (now positions) (now high) (now low) (now «high_arcs») (now «low_arcs») (now marks) × (weight ≡ gap t 0 (place t (root t))) × (1 ≤ n)) ⌝ }
-    ensures { λ r. ⌜ ((t : Table) (p : List ℕ) → Marked t p n (now (positions .entry)) (now (high .entry)) (now (low .entry)) (now («high_arcs» .entry)) (now («low_arcs» .entry)) (now (marks .entry)) → weight ≡ gap t 0 (place t (root t)) → r ≡ upperBound t p) ⌝ }
+    requires { ⌜ ((t : Table) × (p : List ℕ) × Marked t p n (now positions) (now high) (now low) (now «high_arcs») (now «low_arcs») (now marks) × RootsHeld t roots) ⌝ }
+    ensures { λ r. ⌜ ((t : Table) (p : List ℕ) → Marked t p n (now (positions .entry)) (now (high .entry)) (now (low .entry)) (now («high_arcs» .entry)) (now («low_arcs» .entry)) (now (marks .entry)) → RootsHeld t roots → r ≡ upperBound t p) ⌝ }
 {
     let mut values = [0u64; 256];
     values_of(
@@ -72,7 +74,7 @@ pub fn bound_of(
         marks,
         &mut values,
     );
-    weight * value_of(&values, Node::of_record(n - 1))
+    root_sum(roots, &values)
 }
 
 // The values of all nodes under the marks in force, an open line counting as taken. The arrays hold a table and a plan, as

@@ -6,6 +6,7 @@ mod force;
 mod layout;
 mod pass;
 mod plans;
+mod roots;
 
 pub use answer::ScoreAnswer;
 pub use bound::bound_of;
@@ -23,6 +24,8 @@ pub use plans::mark_fault;
 use reading::Fault;
 use reading::ReadAnswer;
 use reading::read_records;
+pub use roots::Roots;
+pub use roots::root_sum;
 ghost use mathlib.Core.Path.{_≡_};
 ghost use Rattle.diagram.specs.Services.{scoreOutcome};
 ghost use Rattle.scoring.specs.Answer.{outcomeOf};

@@ -225,7 +225,7 @@ module _ {g : Scene} {l : Layers} {losses lines : List ℕ} (ground : Ground g l
         lost-bound =
             let layered = ground .layered in
             let drop = flows.entered-drop layered (stands .settles) line-layer line-lowest line-open cells long (stands .rooted) (stands .right) in
-            let top = drop-top (g .table) (layered .formed) (layered .shares) (layered .sized .few) (layered .monotone) (g .plan) d line-open in
+            let top = drop-top (g .table) (layered .formed) (layered .shares) (layered .sized .few) (layered .rooted) (layered .monotone) (g .plan) d line-open in
             (omega (arith, drop, top, stands .bounded), omega (arith, drop, top, stands .bounded))
 
         -- the plan with the line taken

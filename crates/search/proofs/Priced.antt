@@ -4,7 +4,7 @@ use Prim.Native.Nat.{ℕ, zero, suc}
 use mathlib.Core.Path.{_≡_, refl}
 use mathlib.Core.List.{List}
 use lib.ListN.{length}
-use Rattle.diagram.specs.Table.{Table, root, scale}
+use Rattle.diagram.specs.Table.{Table, scale}
 use Rattle.diagram.specs.Score.{scoreFrom, score}
 use Rattle.diagram.specs.Plans.{upperBound, passes, LeastPassing}
 use Rattle.diagram.specs.Checks.{isMonotoneAt}
@@ -12,6 +12,7 @@ use Rattle.diagram.proofs.Truth.{Formed}
 use Rattle.diagram.proofs.Rising.{Monotone}
 use Rattle.scoring.specs.Value.{place, marksFrom, valueFrom, value, gap, variableAt, highArc, lowArc}
 use Rattle.scoring.specs.Passes.{markOf}
+use Rattle.sweep.specs.Down.{rootWeight}
 use Rattle.layers.specs.Layers.{Layers}
 use Rattle.layers.specs.Flows.{highAt, lowAt, Layered, Line, atSum}
 use Rattle.search.specs.State.{priced}
@@ -26,27 +27,35 @@ module _ (k : List ℕ) (t : Table) where
   priced-monotone h = h
 
   pub priced-bound : (p : List ℕ) → upperBound (priced k t) p ≡ upperBound t p
-  unfolding priced upperBound score scoreFrom root
+  unfolding priced upperBound score scoreFrom
   priced-bound p = refl
 
   pub priced-passing : (percent x : ℕ) → LeastPassing t percent x → LeastPassing (priced k t) percent x
   unfolding priced passes scale
   priced-passing percent x h = h
 
+  -- what the roots bring
+  priced-root-weight : (m i : ℕ) → rootWeight (priced k t) m i ≡ rootWeight t m i
+  unfolding priced rootWeight gap place
+  priced-root-weight m zero = refl
+  priced-root-weight m (suc i) = rw (priced-root-weight m i) refl
+
   pub priced-layered : {s order losses : List ℕ} {l : Layers} → Layered t s order l losses → Layered (priced k t) s order l losses
-  unfolding priced isMonotoneAt root highAt lowAt highArc lowArc variableAt markOf marksFrom place gap value valueFrom
+  unfolding priced isMonotoneAt scale highAt lowAt highArc lowArc variableAt markOf marksFrom place gap value valueFrom
   priced-layered h =
       record {
         formed = h .formed;
         shares = h .shares;
         monotone = h .monotone;
         bounded = h .bounded;
+        scaled = h .scaled;
+        rooted = h .rooted;
         some = h .some;
         plan = h .plan;
         legal = h .legal;
         sized = h .sized;
         nodes = h .nodes;
-        inflows = h .inflows;
+        inflows = λ cells one high low i less right. rw priced-root-weight (h .inflows cells one high low i less right);
         lost = h .lost;
       }
 

@@ -13,7 +13,7 @@ use mathlib.Core.List.{List, [], _∷_, _++_}
 use lib.ListN.{length, getD, set, take, drop, replicate, length-set, length-append, length-replicate, drop-of-length-le}
 use lib.Pow.{pow-mono}
 use lib.Seq.{getD-set-same, getD-set-other, take-length, take-append-seam, getD-drop, getD-take, length-take-le, drop-cons}
-use Rattle.diagram.specs.Table.{Variable, choice, chance, Table, sequence, tableOf, root, isChoice, choiceCount}
+use Rattle.diagram.specs.Table.{Variable, choice, chance, Table, sequence, tableOf, isChoice, choiceCount}
 use Rattle.diagram.specs.Plans.{openCount, costOf, cost, LeastPassing}
 use Rattle.diagram.specs.Visits as visits
 use Rattle.diagram.specs.declared.plan.Plan.{Plan}
@@ -22,7 +22,8 @@ use Rattle.diagram.proofs.Checked.{Passed}
 use Rattle.cost.proofs.Kits.{cost-first}
 use Rattle.reading.proofs.Accepted.{passed-variables, passed-choices, passed-formed, passed-monotone}
 use Rattle.rule.proofs.Visiting.{visited-rule}
-use Rattle.scoring.specs.Value.{marksFrom, gap, place}
+use Rattle.scoring.specs.declared.roots.Roots.{Roots}
+use Rattle.scoring.specs.Value.{marksFrom}
 use Rattle.scoring.specs.Passes.{over, markOf, marksByPosition, Marked}
 use Rattle.scoring.proofs.Bounding.{marked}
 use Rattle.scoring.proofs.FullPlans.{Legal}
@@ -342,8 +343,8 @@ module _ {s p : List ℕ} (passed : Passed s) (long : length p ≡ choiceCount (
       numbers-few (tableOf s) p long count numbers places lists room (ready .chosen) (passed-choices passed) (omega (arith, passed-variables passed))
 
   -- all that the first visit is handed
-  pub first-visitable : {percent budget least weight bound left : ℕ} {ends order losses kits lines cells marks best tally : List ℕ} {l : Layers} → Arranged (tableOf s) p weight bound ends order l losses → Ranked count numbers places ends kits lines → getD cells 1 0 ≡ weight → marks ≡ start .marks → left ≡ budget + 1 - costOf kits p → LeastPassing (tableOf s) percent least → Holds (priced (take (length p) kits) (tableOf s)) budget least none best tally → Visitable (firstScene kits s p order percent budget least) l losses lines cells marks best tally count left bound
-  unfolding cost priced root gap place
+  pub first-visitable : {percent budget least bound left : ℕ} {ends order losses kits lines cells marks best tally : List ℕ} {l : Layers} → Arranged (tableOf s) p bound ends order l losses → Ranked count numbers places ends kits lines → getD cells 1 0 ≡ 1 → marks ≡ start .marks → left ≡ budget + 1 - costOf kits p → LeastPassing (tableOf s) percent least → Holds (priced (take (length p) kits) (tableOf s)) budget least none best tally → Visitable (firstScene kits s p order percent budget least) l losses lines cells marks best tally count left bound
+  unfolding cost priced
   first-visitable {kits} arranged ranked heavy same affords passing holds =
       let from = ranked .first in
       let list = take (length p) kits in
@@ -363,7 +364,7 @@ module _ {s p : List ℕ} (passed : Passed s) (long : length p ≡ choiceCount (
           affords = rw (cost-first kits p) affords;
           bounded = arranged .bounded ∙ sym (priced-bound list (tableOf s) p);
           right = rw from (record { high = λ j k h e. absurd (omega arith); low = λ j k h e. absurd (omega arith) });
-          rooted = heavy ∙ arranged .weighs;
+          rooted = heavy;
         };
         holds = holds;
       }
@@ -386,7 +387,7 @@ first-explored {s} {p} passed kits {percent} {budget} {least} {from} {counted} {
 -- What the search lays out
 
 -- the arrays hold the table and the plan
-pub arrays-marked : {s p : List ℕ} → Passed s → {n weight : ℕ} {ps hs ls ha la ms : List ℕ} → Arrays s n weight ps hs ls ha la → (length p ≡ choiceCount (tableOf s .variables)) × Legal p → ms ≡ marksByPosition (tableOf s) p → Marked (tableOf s) p n ps hs ls ha la ms
+pub arrays-marked : {s p : List ℕ} → Passed s → {n : ℕ} {rs : Roots} {ps hs ls ha la ms : List ℕ} → Arrays s n rs ps hs ls ha la → (length p ≡ choiceCount (tableOf s .variables)) × Legal p → ms ≡ marksByPosition (tableOf s) p → Marked (tableOf s) p n ps hs ls ha la ms
 arrays-marked {s} {p} passed {n} arrays plan marks =
     marked passed n (arrays .size) p (replicate 256 0) (replicate 256 0) (plan .0) (plan .1) (arrays .decoded) (arrays .high-arcs) (arrays .low-arcs) marks
 
@@ -399,12 +400,12 @@ module _ {t : Table} {p : List ℕ} {n : ℕ} {ps hs ls ha la ms : List ℕ} (m 
   records-placed k h =
       rw variables (position-below t (m .formed) few (m .few) (m .positions) refl refl k (omega (arith, m .size)))
 
-  module _ {order : List ℕ} (ordered : order ≡ placed (replicate 1024 0) 0 (joined (λ x. pick ps 0 x n) v)) where
+  module _ {order : List ℕ} (ordered : order ≡ placed (replicate 1040 0) 0 (joined (λ x. pick ps 0 x n) v)) where
     -- the nodes in order, as the laws of the layout have them
-    pub order-is : order ≡ placed (replicate 1024 0) 0 (joined (nodesAt ps n) (length (t .variables)))
+    pub order-is : order ≡ placed (replicate 1040 0) 0 (joined (nodesAt ps n) (length (t .variables)))
     order-is = rw variables at ordered
 
-    order-same : order ≡ placed (replicate 1024 0) 0 (joined (nodesAt ps (length (t .records))) (length (t .variables)))
+    order-same : order ≡ placed (replicate 1040 0) 0 (joined (nodesAt ps (length (t .records))) (length (t .variables)))
     order-same = rw (m .size .0, variables) at ordered
 
     -- how many nodes stand before each position

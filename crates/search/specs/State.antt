@@ -4,14 +4,15 @@ use mathlib.Core.Path.{_≡_}
 use mathlib.Core.List.{List, [], _∷_, _++_}
 use mathlib.Core.Option.{Option, none, some}
 use lib.ListN.{length, getD, take, replicate}
-use Rattle.diagram.specs.Table.{Table, Variable, choice, chance, sequence, tableOf, root, choiceCount}
+use Rattle.diagram.specs.Table.{Table, Variable, choice, chance, sequence, tableOf, choiceCount}
 use Rattle.diagram.specs.Score as scores
 use Rattle.diagram.specs.Plans.{openTaken, openCount, cost, upperBound, LeastPassing}
 use Rattle.diagram.specs.Visits as visits
 use Rattle.diagram.specs.declared.plan.Plan.{Plan}
 use Rattle.search.specs.declared.explore.Limits.{Limits}
-use Rattle.scoring.specs.Value.{place, gap, highArc, lowArc}
-use Rattle.scoring.specs.Passes.{over, byNode, Decoded, marksByPosition}
+use Rattle.scoring.specs.declared.roots.Roots.{Roots}
+use Rattle.scoring.specs.Value.{place, highArc, lowArc}
+use Rattle.scoring.specs.Passes.{over, byNode, Decoded, RootsHeld, marksByPosition}
 use Rattle.rule.specs.Rule.{terms, rule}
 use Rattle.layers.specs.Chains.{pick, joined, placed}
 use Rattle.layers.specs.Layers.{Layers}
@@ -51,7 +52,7 @@ choicePosition (chance a b ∷ vs) i = suc (choicePosition vs i)
 
 -- A table with other kits in place of its own
 unfoldable pub priced : List ℕ → Table → Table
-priced kits t = record { variables = t .variables; records = t .records; kits = kits }
+priced kits t = record { variables = t .variables; records = t .records; kits = kits; roots = t .roots }
 
 -- ---------------------------------------------------------------------------
 -- The ranks of open lines, by how many lines are unsettled when the line is the lowest of them
@@ -118,7 +119,7 @@ pub record Stands (g : Scene) (lines cells marks : List ℕ) (unsettled room bou
   pub affords : room ≡ g .budget + 1 - cost (g .table) (g .plan)
   pub bounded : bound ≡ upperBound (g .table) (g .plan)
   pub right : Right (g .table) (g .start) (openTaken (g .plan)) (g .order) (getD lines unsettled 0) cells
-  pub rooted : getD cells 1 0 ≡ gap (g .table) 0 (place (g .table) (root (g .table)))
+  pub rooted : getD cells 1 0 ≡ 1
 
 -- All that a visit is handed
 pub record Visitable (g : Scene) (l : Layers) (losses lines cells marks best tally : List ℕ) (unsettled room bound : ℕ) : Type 0 where
@@ -149,19 +150,19 @@ VisitLeaves l losses lines cells marks best tally unsettled room bound cells′ 
 -- The start and the end of a search
 
 -- The arrays hold the file's table, as `lay_out` leaves them
-pub record Arrays (s : List ℕ) (n weight : ℕ) (positions high low highArcs lowArcs : List ℕ) : Type 0 where
+pub record Arrays (s : List ℕ) (n : ℕ) (rs : Roots) (positions high low highArcs lowArcs : List ℕ) : Type 0 where
   pub size : n ≡ length (tableOf s .records)
-  pub weighs : weight ≡ gap (tableOf s) 0 (place (tableOf s) (root (tableOf s)))
+  pub entering : RootsHeld (tableOf s) rs
   pub decoded : Decoded s positions high low
   pub high-arcs : highArcs ≡ over (byNode (highArc (tableOf s)) n) (replicate 256 0)
   pub low-arcs : lowArcs ≡ over (byNode (lowArc (tableOf s)) n) (replicate 256 0)
 
 -- The marks by position, and the nodes and arcs in order, as `arrange` leaves them
-pub record Ordered (s p : List ℕ) (n : ℕ) (positions high low highArcs lowArcs marks ends order : List ℕ) (l : Layers) : Type 0 where
+pub record Ordered (s p : List ℕ) (n : ℕ) (rs : Roots) (positions high low highArcs lowArcs marks ends order : List ℕ) (l : Layers) : Type 0 where
   pub marking : marks ≡ marksByPosition (tableOf s) p
-  pub nodes : order ≡ placed (replicate 1024 0) 0 (joined (λ x. pick positions 0 x n) (length (tableOf s .variables)))
+  pub nodes : order ≡ placed (replicate 1040 0) 0 (joined (λ x. pick positions 0 x n) (length (tableOf s .variables)))
   pub ending : ends ≡ over (sequence (λ x. length (joined (λ y. pick positions 0 y n) x)) 0 (length (tableOf s .variables) + 1)) (replicate 256 0)
-  pub laid : Laid n positions high low highArcs lowArcs marks order l
+  pub laid : Laid n rs positions high low highArcs lowArcs marks order l
 
 -- `ends` has how many nodes of the order stand before each position: those before stand there, those from there to the next at it, and those after later
 pub record Ending (t : Table) (order ends : List ℕ) : Type 0 where
@@ -173,8 +174,7 @@ pub record Ending (t : Table) (order ends : List ℕ) : Type 0 where
   pub sums : (x : ℕ) → x < length (t .variables) → (f : ℕ → ℕ) → rankSum (λ j. f (getD order j 0)) (getD ends x 0) (getD ends (x + 1) 0 - getD ends x 0) ≡ atSum t f x (length (t .records))
 
 -- The arrays hold table t, laid out for a search from plan p, whose bound it is
-pub record Arranged (t : Table) (p : List ℕ) (weight bound : ℕ) (ends order : List ℕ) (l : Layers) (losses : List ℕ) : Type 0 where
-  pub weighs : weight ≡ gap t 0 (place t (root t))
+pub record Arranged (t : Table) (p : List ℕ) (bound : ℕ) (ends order : List ℕ) (l : Layers) (losses : List ℕ) : Type 0 where
   pub bounded : bound ≡ upperBound t p
   pub layered : Layered t p order l losses
   pub ending : Ending t order ends

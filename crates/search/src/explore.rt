@@ -4,16 +4,16 @@ use crate::lines::open_lines;
 use crate::visit::visit;
 use cost::cost_of;
 use cost::kits_of;
-use diagram::Node;
 use diagram::Plan;
 use layers::lay_arcs;
 use layers::order_records;
 use layers::weigh_losses;
 use reading::record_count;
 use reading::variable_count;
+use scoring::Roots;
 use scoring::lay_out;
 use scoring::marks_by_position;
-use scoring::value_of;
+use scoring::root_sum;
 use scoring::values_of;
 use sweep::by_choice;
 ghost use mathlib.Core.Path.{_≡_};
@@ -137,7 +137,7 @@ pub fn explore(
     let n = record_count(file);
     let mut high_arcs = [0u64; 256];
     let mut low_arcs = [0u64; 256];
-    let weight = lay_out(file, n, positions, high, low, &mut high_arcs, &mut low_arcs);
+    let roots = lay_out(file, n, positions, high, low, &mut high_arcs, &mut low_arcs);
     let marks = marks_by_position(file, plan);
     arrange(
         file,
@@ -146,7 +146,7 @@ pub fn explore(
         best,
         tally,
         n,
-        weight,
+        roots,
         positions,
         high,
         low,
@@ -164,7 +164,7 @@ fn arrange(
     best: &mut [u8; 20],
     tally: &mut [u64; 3],
     n: usize,
-    weight: u64,
+    roots: Roots,
     positions: &[u8; 256],
     high: &[u8; 256],
     low: &[u8; 256],
@@ -176,18 +176,19 @@ fn arrange(
     requires plan { ⌜ (length (now plan) ≡ choiceCount (tableOf (now file) .variables)) × ((i : ℕ) → getD (now plan) i 0 ≤ 2) ⌝ }
     requires least { ⌜ (limits .budget ≤ 10020) × ((percent : ℕ) × LeastPassing (tableOf (now file)) percent (limits .least)) ⌝ }
     requires sizes { ⌜ (length (now best) ≡ 20) × (length (now tally) ≡ 3) ⌝ }
-    requires arrays { ⌜ Arrays (now file) n weight (now positions) (now high) (now low) (now «high_arcs») (now «low_arcs») ⌝ }
+    requires arrays { ⌜ Arrays (now file) n roots (now positions) (now high) (now low) (now «high_arcs») (now «low_arcs») ⌝ }
     requires marks { ⌜ now marks ≡ marksByPosition (tableOf (now file)) (now plan) ⌝ }
     ensures { λ _. ⌜ ExploredWithin (now (file .entry)) (now (plan .entry)) limits (now (best .exit)) (now (tally .exit)) ⌝ }
 {
-    let mut order = [0u16; 1024];
+    let mut order = [0u16; 1040];
     let mut ends = [0u16; 256];
     order_records(n, variable_count(file), positions, &mut order, &mut ends);
     let mut starts = [0u16; 256];
-    let mut sources = [0u16; 1024];
-    let mut arcs = [0u64; 1024];
+    let mut sources = [0u16; 1040];
+    let mut arcs = [0u64; 1040];
     lay_arcs(
         n,
+        roots,
         positions,
         high,
         low,
@@ -206,7 +207,7 @@ fn arrange(
         best,
         tally,
         n,
-        weight,
+        roots,
         positions,
         high,
         low,
@@ -229,7 +230,7 @@ fn evaluate(
     best: &mut [u8; 20],
     tally: &mut [u64; 3],
     n: usize,
-    weight: u64,
+    roots: Roots,
     positions: &[u8; 256],
     high: &[u8; 256],
     low: &[u8; 256],
@@ -237,17 +238,17 @@ fn evaluate(
     low_arcs: &[u64; 256],
     marks: &[u8; 64],
     ends: &[u16; 256],
-    order: &[u16; 1024],
+    order: &[u16; 1040],
     starts: &[u16; 256],
-    sources: &[u16; 1024],
-    arcs: &[u64; 1024],
+    sources: &[u16; 1040],
+    arcs: &[u64; 1040],
 )
     requires passed { ⌜ Passed (now file) ⌝ }
     requires plan { ⌜ (length (now plan) ≡ choiceCount (tableOf (now file) .variables)) × ((i : ℕ) → getD (now plan) i 0 ≤ 2) ⌝ }
     requires least { ⌜ (limits .budget ≤ 10020) × ((percent : ℕ) × LeastPassing (tableOf (now file)) percent (limits .least)) ⌝ }
     requires sizes { ⌜ (length (now best) ≡ 20) × (length (now tally) ≡ 3) ⌝ }
-    requires arrays { ⌜ Arrays (now file) n weight (now positions) (now high) (now low) (now «high_arcs») (now «low_arcs») ⌝ }
-    requires ordered { ⌜ Ordered (now file) (now plan) n (now positions) (now high) (now low) (now «high_arcs») (now «low_arcs») (now marks) (now ends) (now order) (layersOf (now starts) (now sources) (now arcs)) ⌝ }
+    requires arrays { ⌜ Arrays (now file) n roots (now positions) (now high) (now low) (now «high_arcs») (now «low_arcs») ⌝ }
+    requires ordered { ⌜ Ordered (now file) (now plan) n roots (now positions) (now high) (now low) (now «high_arcs») (now «low_arcs») (now marks) (now ends) (now order) (layersOf (now starts) (now sources) (now arcs)) ⌝ }
     ensures { λ _. ⌜ ExploredWithin (now (file .entry)) (now (plan .entry)) limits (now (best .exit)) (now (tally .exit)) ⌝ }
 {
     let mut values = [0u64; 256];
@@ -272,14 +273,13 @@ fn evaluate(
         order,
         &mut losses,
     );
-    let bound = weight * value_of(&values, Node::of_record(n - 1));
+    let bound = root_sum(roots, &values);
     first_visit(
         file,
         plan,
         limits,
         best,
         tally,
-        weight,
         bound,
         ends,
         starts,
@@ -296,19 +296,18 @@ fn first_visit(
     limits: Limits,
     best: &mut [u8; 20],
     tally: &mut [u64; 3],
-    weight: u64,
     bound: u64,
     ends: &[u16; 256],
     starts: &[u16; 256],
-    sources: &[u16; 1024],
-    arcs: &[u64; 1024],
+    sources: &[u16; 1040],
+    arcs: &[u64; 1040],
     losses: &[u64; 256],
 )
     requires passed { ⌜ Passed (now file) ⌝ }
     requires plan { ⌜ (length (now plan) ≡ choiceCount (tableOf (now file) .variables)) × ((i : ℕ) → getD (now plan) i 0 ≤ 2) ⌝ }
     requires least { ⌜ (limits .budget ≤ 10020) × ((percent : ℕ) × LeastPassing (tableOf (now file)) percent (limits .least)) ⌝ }
     requires sizes { ⌜ (length (now best) ≡ 20) × (length (now tally) ≡ 3) ⌝ }
-    requires arranged { ⌜ ((order : List ℕ) × Arranged (tableOf (now file)) (now plan) weight bound (now ends) order (layersOf (now starts) (now sources) (now arcs)) (now losses)) ⌝ }
+    requires arranged { ⌜ ((order : List ℕ) × Arranged (tableOf (now file)) (now plan) bound (now ends) order (layersOf (now starts) (now sources) (now arcs)) (now losses)) ⌝ }
     ensures { λ _. ⌜ ExploredWithin (now (file .entry)) (now (plan .entry)) limits (now (best .exit)) (now (tally .exit)) ⌝ }
 {
     let places = by_choice(file, &POSITIONS);
@@ -319,7 +318,7 @@ fn first_visit(
     let mut lines = [0u16; 84];
     line_ranks(open.count, &numbers, &places, ends, &kits, &mut lines);
     let mut cells = [0u64; 512];
-    cells[1] = weight;
+    cells[1] = 1;
     let mut marks = start.marks;
     tally[0] = limits.least;
     tally[1] = 0;

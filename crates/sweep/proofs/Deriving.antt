@@ -2,36 +2,38 @@
 -- every other position to 0; all sums fit.
 -- Assumes of the arrays that they hold the table and the plan (`Marked`), and of the table what check 18 finds (`Monotone`).
 use Prim.Native.Nat.{ℕ, zero, suc, _+_, _-_, _*_, _≤_, _<_, _^_}
-use native.Mathlib.Nat.{le-of-eq, add-zero, zero-add, add-sub-of-le}
+use native.Mathlib.Nat.{le-refl, le-of-eq, add-zero, zero-add, add-sub-of-le}
 use native.Mathlib.Decide.{decLt}
 use native.Mathlib.Omega.{arith}
 use mathlib.Core.Path.{_≡_, refl, ap, sym, _∙_, fun-ext}
 use mathlib.Core.Bool.{Bool, true, false, cond, false≢true}
 use mathlib.Core.Logic.{by-cases}
 use mathlib.Core.List.{List, [], _∷_}
-use lib.ListN.{length, getD, set, take, drop, replicate, length-set, length-replicate, getD-replicate, List·getD-eq-default}
+use lib.ListN.{length, getD, set, take, drop, replicate, length-replicate, getD-replicate, List·getD-eq-default}
 use lib.Seq.{getD-drop, getD-append-add}
 use lib.Dec.{eqb}
 use borrow.Author.Tests.{eqb-true, eq-eqb}
-use Rattle.diagram.specs.Table.{chance, Table, Record, sequence, recordAt, root, isChoice, choiceCount, scaleOf}
+use Rattle.diagram.specs.Table.{chance, Table, Record, sequence, recordAt, isChoice, choiceCount, scaleOf}
 use Rattle.diagram.specs.Score.{score}
 use Rattle.diagram.specs.Plans.{openTaken, isOpen, upperBound, derivative, derivatives}
 use Rattle.diagram.specs.Checks.{positionOf}
 use Rattle.diagram.proofs.Every.{both, and-true-both, both-ways}
 use Rattle.diagram.proofs.Places.{sequence-length, sequence-at}
-use Rattle.diagram.proofs.Locality.{position-le, position-less}
+use Rattle.diagram.proofs.Locality.{position-less}
 use Rattle.diagram.proofs.FirstVariable.{scale-positive}
 use Rattle.diagram.proofs.Rising.{Monotone}
 use Rattle.implication.proofs.Pairing.{column-at}
-use Rattle.scoring.specs.Value.{place, value, gap, variableAt, markAt, highWeight, lowWeight}
-use Rattle.scoring.specs.Passes.{over, byNode, highInForce, lowInForce, markAtNode, Arcs, passUp, Fits, Marked}
-use Rattle.scoring.proofs.Values.{gap-scale, shares-drop, weights-scale, value-le, value-false, value-true, value-step, score-value}
+use Rattle.scoring.specs.declared.roots.Roots.{Roots}
+use Rattle.scoring.specs.Value.{place, value, rootedSum, variableAt, markAt, highWeight, lowWeight}
+use Rattle.scoring.specs.Passes.{over, byNode, RootsHeld, highInForce, lowInForce, markAtNode, Arcs, passUp, Fits, Marked}
+use Rattle.scoring.proofs.Values.{shares-drop, weights-scale, value-le, value-false, value-true, value-step, score-rooted, scale-rooted}
 use Rattle.scoring.proofs.Over.{over-getD, over-sequence-at, over-at}
 use Rattle.scoring.proofs.Bounding.{top-fits}
 use Rattle.scoring.proofs.Passing.{choices-before, scale-drop-le, position-within, mark-at-node, high-in-force, low-in-force, passed-values, marked-fits}
-use Rattle.sweep.specs.Down.{dot, recordSum, passDown, Budget}
+use Rattle.sweep.specs.Down.{dot, rootWeightsOf, RootFits, recordSum, passDown, Budget}
 use Rattle.sweep.specs.Drops.{Weighed, lossAt, opensAt, lossSum, Losing, isOf, shortfall, derivativeAt, Chosen}
-use Rattle.sweep.proofs.Transposing.{transposed, dot-one}
+use Rattle.sweep.proofs.Transposing.{transposed}
+use Rattle.sweep.proofs.RootWeights.{root-weights-length, all-dot, root-weights-fit, held-rooted, root-weights-of}
 use Rattle.sweep.proofs.Leaving.{choices-later, mark-number, open-gains, left-step}
 
 -- ---------------------------------------------------------------------------
@@ -83,10 +85,6 @@ zeros-bound n b i =
     by-cases (decLt i n)
     (λ l. rw (getD-replicate {A = ℕ} n i 0 0 l) (omega arith))
     (λ f. rw (List·getD-eq-default {A = ℕ} (replicate n 0) 0 {n = i} (rw length-replicate (omega (arith, f)))) (omega arith))
-
--- zeros with one weight stored
-pub stored-size : (i x : ℕ) → length (set (replicate 256 0) i x) ≡ 256
-stored-size i x = simp (length-set, length-replicate) refl
 
 -- ---------------------------------------------------------------------------
 -- Sums of losses
@@ -143,22 +141,24 @@ module _ {t : Table} {p : List ℕ} {n : ℕ} {ps hs ls ha la ms : List ℕ} (m 
     pub values-are : {vs : List ℕ} → vs ≡ over (passUp (arcsOf hs ls hw lw) n) (replicate 256 0) → vs ≡ over (sequence (value t (openTaken p)) 0 (n + 2)) (replicate 256 0)
     values-are evs = evs ∙ rw (ehw, elw, passed-values m (replicate 256 0) (replicate 256 0)) refl
 
-    -- the root's weight to begin with
-    module _ {weight : ℕ} {ws : List ℕ} (ew : weight ≡ gap t 0 (place t (root t))) (ews : ws ≡ set (replicate 256 0) (n + 1) weight) where
-      -- the sum with one weight, the root's
-      root-dot : (v : ℕ → ℕ) → dot ws v (n + 2) ≡ weight * v (n + 1)
+    -- the weights to begin with are what the roots bring
+    module _ {rs : Roots} {ws : List ℕ} (e : RootsHeld t rs) (ews : ws ≡ rootWeightsOf rs (rs .count) (replicate 256 0)) where
+      -- the sum with them is the sum over the roots
+      root-dot : (v : ℕ → ℕ) → dot ws v (n + 2) ≡ rootedSum t v
       root-dot v =
           let few = m .size .1 in
-          rw ews (dot-one 256 v (n + 1) weight (n + 2) (omega arith) (omega arith))
+          rw (ews, root-weights-of e (replicate 256 0) (rs .count) (le-refl (rs .count)), e .all, m .size .0) (all-dot t (held-rooted e) v (omega (arith, m .size .0)))
 
       -- there are 256 weights
-      root-size : length ws ≡ 256
-      root-size = rw ews (stored-size (n + 1) weight)
+      pub root-size : length ws ≡ 256
+      root-size = rw (ews, root-weights-of e (replicate 256 0) (rs .count) (le-refl (rs .count))) (root-weights-length t (rs .count) (replicate 256 0))
 
-      -- the root's weight times its scale is the table's scale
-      root-scale : weight * scaleOf (drop (place t (n + 1)) (t .variables)) ≡ scaleOf (t .variables)
-      unfolding root place
-      root-scale = rw (ew, m .size .0) (gap-scale t 0 (place t (length (t .records) + 1)) (omega arith) (position-le (m .formed) _))
+      -- the roots' weights fit
+      pub root-fits : (i : ℕ) → i < rs .count → RootFits rs (replicate 256 0) i
+      root-fits i h =
+          let within = e .held .within i h .1 in
+          let fit = root-weights-fit t (held-rooted e) (λ i. scaleOf (drop (place t i) (t .variables))) (omega (arith, m .size)) (λ i. scale-positive (shares-drop (m .shares) (place t i))) (suc i) (omega (arith, e .all)) (getD (rs .nodes) (i + 2) 0) within in
+          (omega (arith, within, m .size), rw (root-weights-of e (replicate 256 0) (suc i) (omega arith)) (omega (arith, fit, scale-rooted t (m .formed) (m .shares), m .scaled)))
 
       -- the pass down stays within its budget: a node's number is the product of b from its position on
       pub budget : Budget (arcsOf hs ls hw lw) n (λ i. scaleOf (drop (place t i) (t .variables))) ws
@@ -170,15 +170,10 @@ module _ {t : Table} {p : List ℕ} {n : ℕ} {ps hs ls ha la ms : List ℕ} (m 
                 let two : k + 2 ≡ suc (suc k) = omega arith in
                 rw (high-weight-is k h, low-weight-is k h, high-is k h, low-is k h, two)
                 (le-of-eq (weights-scale t (m .formed) (m .shares) (openTaken p) k));
-            total = rw (root-dot (λ i. scaleOf (drop (place t i) (t .variables))), root-scale) (m .bounded);
+            total = rw (root-dot (λ i. scaleOf (drop (place t i) (t .variables))), scale-rooted t (m .formed) (m .shares)) (m .scaled);
             highLess = fits .highLess;
             lowLess = fits .lowLess;
           }
-
-      -- the root's weight times its value is the score
-      root-score : (u : List ℕ) → weight * value t u (n + 1) ≡ score t u
-      unfolding score root
-      root-score u = rw (ew, m .size .0) (sym (score-value t (m .formed) (m .shares) u (length (t .records) + 1)))
 
       module _ {ds : List ℕ} (eds : ds ≡ passDown (arcsOf hs ls hw lw) n ws) where
         -- of the ends, only true counts
@@ -191,7 +186,7 @@ module _ {t : Table} {p : List ℕ} {n : ℕ} {ps hs ls ha la ms : List ℕ} (m 
         summed u r step =
             let few = m .size .1 in
             let all = transposed (arcsOf hs ls hw lw) n ws (value t u) r (fits .highLess) (fits .lowLess) (omega (arith, root-size)) (λ k h. rw (high-weight-is k h, low-weight-is k h, high-is k h, low-is k h) (step k)) in
-            omega (arith, rw (← eds) at all, root-dot (value t u), root-score u, ends u)
+            omega (arith, rw (← eds) at all, root-dot (value t u), score-rooted t (m .formed) (m .shares) u, ends u)
 
         -- the top is the weight that comes to the end true
         top-is : score t (openTaken p) ≡ getD ds 1 0
@@ -290,7 +285,7 @@ module _ {t : Table} {p : List ℕ} {n : ℕ} {ps hs ls ha la ms : List ℕ} (m 
   -- ---------------------------------------------------------------------------
   -- The drops
 
-  module _ (monotone : Monotone t) {hw lw ws vs ds : List ℕ} {weight : ℕ} (ew : weight ≡ gap t 0 (place t (root t))) (ehw : hw ≡ over (byNode (λ k. highInForce (markAtNode ps ms k) (getD ha (k + 2) 0)) n) (replicate 256 0)) (elw : lw ≡ over (byNode (λ k. lowInForce (markAtNode ps ms k) (getD la (k + 2) 0)) n) (replicate 256 0)) (evs : vs ≡ over (sequence (value t (openTaken p)) 0 (n + 2)) (replicate 256 0)) (ews : ws ≡ set (replicate 256 0) (n + 1) weight) (eds : ds ≡ passDown (arcsOf hs ls hw lw) n ws) where
+  module _ (monotone : Monotone t) {rs : Roots} {hw lw ws vs ds : List ℕ} (e : RootsHeld t rs) (ehw : hw ≡ over (byNode (λ k. highInForce (markAtNode ps ms k) (getD ha (k + 2) 0)) n) (replicate 256 0)) (elw : lw ≡ over (byNode (λ k. lowInForce (markAtNode ps ms k) (getD la (k + 2) 0)) n) (replicate 256 0)) (evs : vs ≡ over (sequence (value t (openTaken p)) 0 (n + 2)) (replicate 256 0)) (ews : ws ≡ rootWeightsOf rs (rs .count) (replicate 256 0)) (eds : ds ≡ passDown (arcsOf hs ls hw lw) n ws) where
     -- what is lost at a position is the drop of its choice
     lost-at : (x : ℕ) → lossSum (lossesOf ps ls la ms vs ds) x n ≡ derivativeAt t p x
     unfolding derivativeAt derivative
@@ -300,7 +295,7 @@ module _ {t : Table} {p : List ℕ} {n : ℕ} {ps hs ls ha la ms : List ℕ} (m 
       where
         go : (b : Bool) → isChoice (getD (t .variables) x (chance 0 1)) ≡ b → (d : Bool) → isOpen p (choiceCount (take x (t .variables))) ≡ d → lossSum (lossesOf ps ls la ms vs ds) x n ≡ cond b (derivative t p (choiceCount (take x (t .variables)))) 0
         go true c true o =
-            loss-sum _ ds _ x n (loss-is vs ds x c o evs) ∙ sym (drop-is ehw elw ew ews eds monotone (choiceCount (take x (t .variables))) o)
+            loss-sum _ ds _ x n (loss-is vs ds x c o evs) ∙ sym (drop-is ehw elw e ews eds monotone (choiceCount (take x (t .variables))) o)
         go true c false o = loss-nothing vs ds x (λ _ q. false≢true (sym o ∙ q)) ∙ rw o refl
         go false c d o = loss-nothing vs ds x (λ q _. false≢true (sym c ∙ q))
 

@@ -3,6 +3,7 @@ pub mod Requesting
 pub mod Serving
 pub mod ForcedLines
 pub mod Transposing
+pub mod RootWeights
 pub mod Summing
 pub mod Gathering
 pub mod Leaving

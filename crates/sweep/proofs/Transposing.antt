@@ -1,13 +1,13 @@
 -- The laws of the pass down: it is the transpose of the pass up, and it stays within its budget.
 -- Assumes of the arcs that children have smaller numbers, and of the weights that there is one for each node.
 use Prim.Native.Nat.{ℕ, zero, suc, _+_, _*_, _≤_, _<_, _^_}
-use native.Mathlib.Nat.{le-refl, zero-add, mul-le-mul-left, eq-or-lt-of-le}
+use native.Mathlib.Nat.{le-refl, mul-le-mul-left, eq-or-lt-of-le}
 use native.Mathlib.Decide.{ℕ-discrete}
 use native.Mathlib.Omega.{arith}
 use mathlib.Core.Path.{_≡_, refl, ap, _∙_}
 use mathlib.Core.Logic.{⊎-elim, by-cases}
 use mathlib.Core.List.{List}
-use lib.ListN.{length, getD, set, replicate, length-set, length-replicate, getD-replicate}
+use lib.ListN.{length, getD, set, replicate, length-set, getD-replicate}
 use lib.Seq.{getD-set-same, getD-set-other}
 use Rattle.scoring.specs.Passes.{Arcs}
 use Rattle.sweep.specs.Down.{dot, recordSum, added, handOn, passDown, Budget}
@@ -22,7 +22,7 @@ dot-before ws v i x zero h = refl
 dot-before ws v i x (suc n) h = rw (getD-set-other ws i n x 0 (omega arith), dot-before ws v i x n (omega arith))
 
 -- x more at node i is x times its value more in the sum
-dot-added : (ws : List ℕ) (v : ℕ → ℕ) (i x n : ℕ) → i < n → i < length ws → dot (added ws i x) v n ≡ dot ws v n + x * v i
+pub dot-added : (ws : List ℕ) (v : ℕ → ℕ) (i x n : ℕ) → i < n → i < length ws → dot (added ws i x) v n ≡ dot ws v n + x * v i
 unfolding dot added
 dot-added ws v i x zero h l = absurd (omega arith)
 dot-added ws v i x (suc n) h l =
@@ -167,7 +167,7 @@ budget-next {a} {k} {scales} {ws} b size =
     }
 
 -- a term of the sum is at most the sum
-dot-term : (ws : List ℕ) (v : ℕ → ℕ) (i n : ℕ) → i < n → getD ws i 0 * v i ≤ dot ws v n
+pub dot-term : (ws : List ℕ) (v : ℕ → ℕ) (i n : ℕ) → i < n → getD ws i 0 * v i ≤ dot ws v n
 unfolding dot
 dot-term ws v i zero h = absurd (omega arith)
 dot-term ws v i (suc n) h =
@@ -205,21 +205,14 @@ unfolding passDown
 pass-end a k ws whole ek e = rw ek at e
 
 -- ---------------------------------------------------------------------------
--- One weight to begin with
+-- No weights to begin with
 
 -- a cell of a list of zeros
 zeros-at : (m n : ℕ) → n < m → _≡_ {A = ℕ} (getD (replicate m 0) n 0) 0
 zeros-at m n h = getD-replicate m n 0 0 h
 
 -- without weights the sum is zero
-dot-zeros : (m : ℕ) (v : ℕ → ℕ) (n : ℕ) → n ≤ m → dot (replicate m 0) v n ≡ 0
+pub dot-zeros : (m : ℕ) (v : ℕ → ℕ) (n : ℕ) → n ≤ m → dot (replicate m 0) v n ≡ 0
 unfolding dot
 dot-zeros m v zero h = refl
 dot-zeros m v (suc n) h = rw (zeros-at m n (omega arith), dot-zeros m v n (omega arith)) (omega arith)
-
--- with weight x at node i alone, the sum is its term
-pub dot-one : (m : ℕ) (v : ℕ → ℕ) (i x n : ℕ) → i < n → n ≤ m → dot (set (replicate m 0) i x) v n ≡ x * v i
-unfolding added
-dot-one m v i x n h l =
-    let sum : dot (set (replicate m 0) i (getD (replicate m 0) i 0 + x)) v n ≡ dot (replicate m 0) v n + x * v i = dot-added (replicate m 0) v i x n h (simp length-replicate (omega arith)) in
-    rw (zeros-at m i (omega arith), dot-zeros m v n l, zero-add x, zero-add (x * v i)) at sum

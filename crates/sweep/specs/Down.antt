@@ -1,8 +1,14 @@
 -- The pass down the records: every node hands its weight on along its arcs in force, so that a node's weight is the sum over all paths that lead to it.
 -- Source document 000 has the path weight as (6.9) and (6.10); here it is a whole number.
 use Prim.Native.Nat.{ℕ, zero, suc, _+_, _*_, _≤_, _<_, _^_}
+use mathlib.Core.Bool.{cond}
 use mathlib.Core.List.{List}
-use lib.ListN.{getD, set}
+use lib.ListN.{length, getD, set}
+use lib.Dec.{eqb}
+use Rattle.diagram.specs.Table.{Table}
+use Rattle.reading.specs.Roots.{rootAt}
+use Rattle.scoring.specs.declared.roots.Roots.{Roots}
+use Rattle.scoring.specs.Value.{place, gap}
 use Rattle.scoring.specs.Passes.{Arcs}
 
 -- The sum of weight times value over the nodes below n
@@ -18,6 +24,37 @@ recordSum ws r (suc k) = recordSum ws r k + getD ws (k + 2) 0 * r k
 -- x more at node i
 unfoldable pub added : List ℕ → (i x : ℕ) → List ℕ
 added ws i x = set ws i (getD ws i 0 + x)
+
+-- The weights after the first i roots of a table have brought theirs: its reward times b of each variable before comes to a root's node
+unfoldable pub rootWeights : Table → (i : ℕ) → (weights : List ℕ) → List ℕ
+rootWeights t zero ws = ws
+rootWeights t (suc i) ws =
+    added
+    (rootWeights t i ws)
+    (rootAt (t .roots) i .node)
+    (rootAt (t .roots) i .reward * gap t 0 (place t (rootAt (t .roots) i .node)))
+
+-- The same from the arrays that hold the roots
+unfoldable pub rootWeightsOf : Roots → (i : ℕ) → (weights : List ℕ) → List ℕ
+rootWeightsOf rs zero ws = ws
+rootWeightsOf rs (suc i) ws = added (rootWeightsOf rs i ws) (getD (rs .nodes) (i + 2) 0) (getD (rs .weights) (i + 2) 0)
+
+-- The sum that root i makes at its node fits
+abbrev pub RootFits : Roots → (weights : List ℕ) → (i : ℕ) → Type 0
+RootFits rs ws i =
+    (getD (rs .nodes) (i + 2) 0 < 256) × (getD (rootWeightsOf rs (suc i) ws) (getD (rs .nodes) (i + 2) 0) 0 ≤ 2 ^ 56)
+
+-- What the first i roots bring to node m
+unfoldable pub rootWeight : Table → (m i : ℕ) → ℕ
+rootWeight t m zero = 0
+rootWeight t m (suc i) =
+    rootWeight t m i
+    + cond (eqb (rootAt (t .roots) i .node) m) (rootAt (t .roots) i .reward * gap t 0 (place t (rootAt (t .roots) i .node))) 0
+
+-- Every root is a record's node
+abbrev pub Rooted : Table → Type 0
+Rooted t =
+    (i : ℕ) → i < length (t .roots) → (2 ≤ rootAt (t .roots) i .node) × (rootAt (t .roots) i .node < length (t .records) + 2)
 
 -- Node m hands its weight on to its two children
 unfoldable pub handOn : Arcs → (m : ℕ) → (weights : List ℕ) → List ℕ

@@ -1,12 +1,12 @@
 // The pass down the records: the path weight of every node.
 use diagram::Node;
 use reading::child_of;
+use scoring::Roots;
 ghost use mathlib.Core.Path.{_≡_};
 ghost use Prim.Native.Nat.{ℕ, _+_, _*_, _≤_, _<_, _^_};
 ghost use lib.ListN.{length, getD};
-ghost use Rattle.scoring.specs.Passes.{Arcs};
 ghost use Rattle.sweep.specs.Down as down;
-ghost use Rattle.sweep.specs.Down.{added, handOn, Budget};
+ghost use Rattle.sweep.specs.Down.{added, rootWeightsOf, RootFits, handOn, Budget};
 
 // Hands the weights of the first n records' nodes on to their children, the last one first. The weights to begin with may
 // be any that stay within their budget.
@@ -33,6 +33,20 @@ pub fn pass_down(
             weights,
             Node::of_record(k),
         );
+    }
+}
+
+// Adds what comes to the roots to the weights of their nodes. The sums fit.
+pub fn enter(roots: Roots, weights: &mut [u64; 256])
+    requires fits { ⌜ (roots .count ≤ 16) × ((i : ℕ) → i < roots .count → RootFits roots (now weights) i) ⌝ }
+    requires sizes { ⌜ length (now weights) ≡ 256 ⌝ }
+    ensures { λ _. ⌜ now (weights .exit) ≡ rootWeightsOf roots (roots .count) (now (weights .entry)) ⌝ }
+{
+    let mut i = 0;
+    while i < roots.count {
+        let node = Node::new(roots.nodes[i + 2]);
+        add(weights, node, roots.weights[i + 2]);
+        i += 1;
     }
 }
 

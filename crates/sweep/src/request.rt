@@ -12,8 +12,8 @@ ghost use Rattle.reading.specs.Nodes.{columnOr};
 ghost use Rattle.sweep.specs.Request.{requestOutcome};
 ghost use Rattle.sweep.specs.Answer.{requestOf};
 
-// The checks 11 to 18, 21, 22, 23, 24 and 25, in this order. A service without kits or percent hands in 0 for them. The arrays
-// are lent to `read_records`; the lengths are their own, and the services lend local arrays.
+// The checks of a file, then 21, 22, 23, 24 and 25, in this order. A service without kits or percent hands in 0 for them. The
+// arrays are lent to `read_records`; the lengths are their own, and the services lend local arrays.
 pub fn accept(
     file: &[u8],
     plan: &[u8],

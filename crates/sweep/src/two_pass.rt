@@ -1,24 +1,24 @@
 // The two passes of a plan: its top and its drops.
+use crate::down::enter;
 use crate::down::pass_down;
 use crate::drops::by_choice;
 use crate::drops::drops_by_position;
-use diagram::Node;
 use reading::record_count;
+use scoring::Roots;
 use scoring::in_force;
 use scoring::lay_out;
 use scoring::marks_by_position;
 use scoring::pass_up;
-use scoring::value_of;
+use scoring::root_sum;
 ghost use mathlib.Core.Path.{_≡_};
 ghost use mathlib.Core.List.{List};
 ghost use Prim.Native.Nat.{ℕ, _≤_};
 ghost use lib.ListN.{length, getD, replicate};
-ghost use Rattle.diagram.specs.Table.{Table, sequence, tableOf, root, choiceCount};
+ghost use Rattle.diagram.specs.Table.{Table, sequence, tableOf, choiceCount};
 ghost use Rattle.diagram.specs.Plans.{upperBound, derivatives};
 ghost use Rattle.diagram.proofs.Checked.{Passed};
 ghost use Rattle.diagram.proofs.Rising.{Monotone};
-ghost use Rattle.scoring.specs.Value.{place, gap};
-ghost use Rattle.scoring.specs.Passes.{over, Decoded, Marked};
+ghost use Rattle.scoring.specs.Passes.{over, Decoded, RootsHeld, Marked};
 ghost use Rattle.sweep.specs.Drops.{derivativeAt};
 
 // The top of a plan and the drops of its choices, by choice number; the places after the last choice are 0.
@@ -51,7 +51,7 @@ pub fn two_passes(
     let n = record_count(file);
     let mut high_arcs = [0u64; 256];
     let mut low_arcs = [0u64; 256];
-    let weight = lay_out(file, n, positions, high, low, &mut high_arcs, &mut low_arcs);
+    let roots = lay_out(file, n, positions, high, low, &mut high_arcs, &mut low_arcs);
     let marks = marks_by_position(file, plan);
     let swept = up_and_down(
         n,
@@ -61,7 +61,7 @@ pub fn two_passes(
         &high_arcs,
         &low_arcs,
         &marks,
-        weight,
+        roots,
     );
     let drops = swept.drops;
     Sweep {
@@ -70,8 +70,8 @@ pub fn two_passes(
     }
 }
 
-// One pass up gives the values of the nodes, one pass down their path weights; the weight handed in is the root's. The
-// arrays hold a monotone table and a plan, as `read_records`, `lay_out` and `marks_by_position` leave them.
+// One pass up gives the values of the nodes, one pass down their path weights, from what the roots bring. The arrays hold a
+// monotone table, its roots and a plan, as `read_records`, `lay_out` and `marks_by_position` leave them.
 fn up_and_down(
     n: usize,
     positions: &[u8; 256],
@@ -80,10 +80,10 @@ fn up_and_down(
     high_arcs: &[u64; 256],
     low_arcs: &[u64; 256],
     marks: &[u8; 64],
-    weight: u64,
+    roots: Roots,
 ) -> ByPosition
-    requires { ⌜ ((t : Table) × (p : List ℕ) × Marked t p n (now positions) (now high) (now low) (now «high_arcs») (now «low_arcs») (now marks) × Monotone t × (weight ≡ gap t 0 (place t (root t))) × (1 ≤ n)) ⌝ }
-    ensures { λ r. ⌜ ((t : Table) (p : List ℕ) → Marked t p n (now (positions .entry)) (now (high .entry)) (now (low .entry)) (now («high_arcs» .entry)) (now («low_arcs» .entry)) (now (marks .entry)) → Monotone t → weight ≡ gap t 0 (place t (root t)) → (r .bound ≡ upperBound t p) × (r .drops ≡ sequence (derivativeAt t p) 0 64)) ⌝ }
+    requires { ⌜ ((t : Table) × (p : List ℕ) × Marked t p n (now positions) (now high) (now low) (now «high_arcs») (now «low_arcs») (now marks) × Monotone t × RootsHeld t roots) ⌝ }
+    ensures { λ r. ⌜ ((t : Table) (p : List ℕ) → Marked t p n (now (positions .entry)) (now (high .entry)) (now (low .entry)) (now («high_arcs» .entry)) (now («low_arcs» .entry)) (now (marks .entry)) → Monotone t → RootsHeld t roots → (r .bound ≡ upperBound t p) × (r .drops ≡ sequence (derivativeAt t p) 0 64)) ⌝ }
 {
     let mut high_weights = [0u64; 256];
     let mut low_weights = [0u64; 256];
@@ -99,9 +99,9 @@ fn up_and_down(
         &mut low_weights,
     );
     pass_up(n, high, low, &high_weights, &low_weights, &mut values);
-    weights[n + 1] = weight;
+    enter(roots, &mut weights);
     pass_down(n, high, low, &high_weights, &low_weights, &mut weights);
-    let bound = weight * value_of(&values, Node::of_record(n - 1));
+    let bound = root_sum(roots, &values);
     let drops = drops_by_position(n, positions, low, low_arcs, marks, &values, &weights);
     ByPosition { bound, drops }
 }

@@ -1,6 +1,6 @@
 -- The rows of the table "Turned away" decide a request as the checks of the meaning do; reading accepts a file exactly when no row of a file finds it wrong.
 -- Assumes nothing.
-use Prim.Native.Nat.{ℕ, _<_}
+use Prim.Native.Nat.{ℕ}
 use mathlib.Core.Path.{_≡_, refl, ap, _∙_}
 use mathlib.Core.Option.{Option, none, some}
 use mathlib.Core.List.{List, [], _∷_, _++_}
@@ -8,7 +8,7 @@ use Rattle.diagram.specs.Checks.{Check, tableChecks}
 use Rattle.diagram.specs.Services.{Outcome, refused, answered, checked, reading, readOutcome}
 use Rattle.diagram.proofs.Checked.{checked-passes, checked-stops, checked-end, read-reading}
 use Rattle.theorems.specs.Reasons.{Request, Reason, numberOf, Wrong, fileReasons, FirstReason, at-first, further-on, NoReason, no-row, passes-row, fileAlone, Accepted}
-use Rattle.theorems.proofs.Rows.{Renders, row-11, row-12, row-13, row-14, row-15, row-16, row-17, row-18}
+use Rattle.theorems.proofs.Rows.{Renders, row-11, row-12, row-13, row-14, row-15, row-16, row-17, row-26, row-27, row-18}
 
 -- ---------------------------------------------------------------------------
 -- What rows make of a request
@@ -63,7 +63,9 @@ module _ (q : Request) where
       (row refl (row-15 q)
       (row refl (row-16 q)
       (row refl (row-17 q)
-      (row refl (row-18 q) end)))))))
+      (row refl (row-26 q)
+      (row refl (row-27 q)
+      (row refl (row-18 q) end)))))))))
 
 -- rows and their checks, one list after the other
 pub rendered-append : {q : Request} {rs ts : List Reason} {cs ds : List Check} → Rendered q rs cs → Rendered q ts ds → Rendered q (rs ++ ts) (cs ++ ds)

@@ -1,21 +1,20 @@
 -- Demand 1: a request is turned away with the first row that finds it wrong, at its first place, or it is served; what the services promise is what the
 -- briefing demands of them.
 -- Assumes nothing.
-use Prim.Native.Nat.{ℕ, _<_}
+use Prim.Native.Nat.{ℕ}
 use native.Mathlib.Omega.{arith}
-use mathlib.Core.Path.{_≡_, refl, ap, sym, _∙_}
+use mathlib.Core.Path.{_≡_, refl, sym, _∙_}
 use mathlib.Core.Bool.{Bool, true, false, false≢true}
 use mathlib.Core.Option.{Option, none, some}
 use mathlib.Core.List.{List, [], _∷_}
-use lib.ListN.{length, take, drop}
-use Rattle.diagram.specs.Words.{wordAt}
+use lib.ListN.{take}
 use Rattle.diagram.specs.Table.{Table, tableOf}
 use Rattle.diagram.specs.Score as meaning
 use Rattle.diagram.specs.Plans.{completions, noneOf, passing, forcedPlan, forcedCount}
 use Rattle.diagram.specs.Ranking.{bestPlan}
 use Rattle.diagram.specs.Visits.{visitCount}
 use Rattle.diagram.specs.Checks.{jobFault, jobChecks, scoreChecks, sweepChecks, filterChecks, searchChecks}
-use Rattle.diagram.specs.Services.{Outcome, refused, answered, checked, written, reading, Searching, readOutcome, scoreOutcome, sweepOutcome, sweepBuffer, filtering, filterOutcome, filterBuffer, searching, searchOutcome, searchBuffer}
+use Rattle.diagram.specs.Services.{Outcome, refused, answered, written, reading, Searching, scoreOutcome, sweepOutcome, sweepBuffer, filtering, filterOutcome, filterBuffer, searching, searchOutcome, searchBuffer}
 use Rattle.diagram.specs.Printout.{refusalText, planText, searchText, jobOutcome, jobKits, programOutcome, printout}
 use Rattle.diagram.specs.declared.refusal.Refusal.{Refusal}
 use Rattle.diagram.proofs.Checked.{checked-passes, checked-stops, checked-end, read-reading, read-passed}
@@ -28,11 +27,11 @@ use Rattle.sweep.specs.declared.answer.FilterAnswer.the-variants as filter-answ
 use Rattle.sweep.specs.Answer.{sweepOf, filterOf}
 use Rattle.search.specs.declared.answer.SearchAnswer.the-variants as search-answer
 use Rattle.search.specs.Answer.{searchOf}
-use Rattle.theorems.specs.Reasons.{Request, Reason, jobWord, noWayPasses, noCandidate, numberOf, Wrong, fileReasons, scoreReasons, sweepReasons, filterReasons, searchReasons, programReasons, at-first, no-row, passes-row}
+use Rattle.theorems.specs.Reasons.{Request, Reason, noWayPasses, noCandidate, numberOf, Wrong, fileReasons, scoreReasons, sweepReasons, filterReasons, searchReasons, programReasons, at-first, no-row, passes-row}
 use Rattle.theorems.specs.Demand1.{Judged, refuses, serves, Services, jobOf, Demand1}
 use Rattle.theorems.proofs.Answers.{read-refused, table-is, score-refused, score-is, sweep-refused, bound-is, filter-refused, forced-is, search-refused, found-is}
 use Rattle.theorems.proofs.Completing.{no-way-passes}
-use Rattle.theorems.proofs.Deciding.{Decided, stops, answers, Rendered, end, row, one-more, decided-as, decide, at-once, file-rows, rendered-append, read-decided}
+use Rattle.theorems.proofs.Deciding.{Decided, stops, answers, end, row, one-more, decided-as, decide, at-once, file-rows, rendered-append, read-decided}
 use Rattle.theorems.proofs.Demanded2.{none-holds, best-candidate}
 use Rattle.theorems.proofs.Rows.{row-10, row-21, row-22, row-22-full, row-23, row-24, row-25, whole-table}
 
@@ -92,16 +91,16 @@ module _ (q : Request) where
       row-32
 
 -- the program's rows: 10 of its job word, and then those of the search
-program-decided : (input : List ℕ) → Decided (jobOf input) programReasons (programOutcome (take 1265 input))
+program-decided : (input : List ℕ) → Decided (jobOf input) programReasons (programOutcome (take 1329 input))
 unfolding programReasons jobOf programOutcome jobChecks jobKits jobOutcome numberOf
-program-decided input = go (jobFault (take 1265 input)) refl
+program-decided input = go (jobFault (take 1329 input)) refl
   where
-    go : (o : Option ℕ) → jobFault (take 1265 input) ≡ o → Decided (jobOf input) programReasons (programOutcome (take 1265 input))
+    go : (o : Option ℕ) → jobFault (take 1329 input) ≡ o → Decided (jobOf input) programReasons (programOutcome (take 1329 input))
     go none e =
         decided-as (checked-passes _ _ _ _ e ∙ checked-end _ _)
-        (one-more (row-10 (jobOf input) (take 1265 input) refl .passes e) (search-decided (jobOf input)))
+        (one-more (row-10 (jobOf input) (take 1329 input) refl .passes e) (search-decided (jobOf input)))
     go (some i) e =
-        let f = row-10 (jobOf input) (take 1265 input) refl .finds i e in
+        let f = row-10 (jobOf input) (take 1329 input) refl .finds i e in
         stops (at-first (f .0) (f .1)) (checked-stops _ _ _ _ i e)
 
 -- ---------------------------------------------------------------------------

@@ -1,23 +1,22 @@
 -- Demand 2: what `score` and `search` promise is what the briefing demands of them.
 -- Assumes nothing.
-use Prim.Native.Nat.{ℕ, zero, suc, _<_}
+use Prim.Native.Nat.{ℕ, zero, suc, _*_, _<_}
 use native.Mathlib.Nat.{zero-add}
 use native.Mathlib.Omega.{arith}
 use mathlib.Core.Path.{_≡_, refl, ap, sym, _∙_}
 use mathlib.Core.Bool.{true, false, _||_, false≢true}
 use mathlib.Core.Logic.{_⊎_, inl, inr, ⊎-elim}
 use mathlib.Core.Option.{Option, none, some}
-use mathlib.Core.List.{List, _∷_}
+use mathlib.Core.List.{List, [], _∷_, map}
 use lib.ListN.{length, getD}
 use lib.Dec.{eqb, ltb, leb}
 use borrow.Author.Tests.{leb-true, le-leb, eq-eqb}
-use Rattle.diagram.specs.Table.{tableOf}
-use Rattle.diagram.specs.Score.{score, scoreFrom, total}
+use Rattle.diagram.specs.Table.{Root, tableOf}
+use Rattle.diagram.specs.Score.{sum, score, scoreFrom, rewarded, total}
 use Rattle.diagram.specs.Plans.{cost, passing, passes}
 use Rattle.diagram.specs.Ranking.{takesFirst, ranksBefore, isCandidate, bestPlan}
 use Rattle.diagram.specs.Checks.{fullPlanFault, scoreChecks}
-use Rattle.diagram.specs.Services.{refused, answered, written, Searching, scoreOutcome, searching, searchBuffer}
-use Rattle.diagram.specs.declared.refusal.Refusal.{Refusal}
+use Rattle.diagram.specs.Services.{answered, written, scoreOutcome, searching, searchBuffer}
 use Rattle.diagram.proofs.Every.{both, and-true-both}
 use Rattle.diagram.proofs.Places.{no-place}
 use Rattle.diagram.proofs.Checked.{checked-passes, checked-end, read-answers}
@@ -29,13 +28,10 @@ use Rattle.theorems.proofs.Deciding.{accepted-read}
 use Rattle.theorems.proofs.Completing.{completion-completes, completes-completion}
 use Rattle.sweep.proofs.Requesting.{search-answered}
 use Rattle.theorems.proofs.Demanded3.{legal-request}
-use Rattle.scoring.specs.declared.answer.ScoreAnswer.{ScoreAnswer}
 use Rattle.scoring.specs.declared.answer.ScoreAnswer.the-variants as scores
-use Rattle.scoring.specs.Answer.{outcomeOf}
 use Rattle.scoring.proofs.Requests.{length-fits}
-use Rattle.search.specs.declared.answer.Finding.{Finding}
 use Rattle.search.specs.declared.answer.SearchAnswer.{SearchAnswer}
-use Rattle.search.specs.declared.answer.SearchAnswer.the-variants.{Found, Refused}
+use Rattle.search.specs.declared.answer.SearchAnswer.the-variants.{Found}
 use Rattle.search.specs.Answer.{searchOf}
 use Rattle.theorems.specs.Plans.{FullPlan, Candidate}
 use Rattle.theorems.specs.Reasons.{Accepted}
@@ -157,10 +153,16 @@ full-marks p s h = no-place (λ i. ltb 2 (getD p i 0) || eqb (getD p i 0) 0) 0 (
     settled m (inl e) = rw e refl
     settled m (inr e) = rw e refl
 
+-- the sum over the roots, as a sum over a list of numbers
+rewarded-sum : (f : ℕ → ℕ) (rs : List Root) → rewarded f rs ≡ sum (map (λ (r : Root). r .reward * f (r .node)) rs)
+unfolding rewarded sum
+rewarded-sum f [] = refl
+rewarded-sum f (r ∷ rs) = rw (rewarded-sum f rs) refl
+
 -- a score is the weighted count
 counted : (s p : List ℕ) → score (tableOf s) p ≡ weightedCount s p
 unfolding score scoreFrom total
-counted s p = refl
+counted s p = rewarded-sum _ (tableOf s .roots)
 
 module _ (s p : List ℕ) (read : Accepted s) (full : FullPlan s p) where
   -- what the score answers to a full plan of an accepted table

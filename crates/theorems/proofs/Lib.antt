@@ -8,3 +8,5 @@ pub mod Demanded3
 pub mod Demanded2
 pub mod Demanded1
 pub mod Charged
+pub mod Alike
+pub mod Rooted

@@ -1,28 +1,29 @@
 -- Each check of the meaning (`diagram`, Checks) is a row of the table "Turned away": it finds no place where the row is right at every place, and else the
 -- first place that is wrong.
 -- Assumes nothing.
-use Prim.Native.Nat.{ℕ, zero, suc, _+_, _-_, _*_, _%_, _^_, _≤_, _<_}
+use Prim.Native.Nat.{ℕ, zero, suc, _+_, _-_, _%_, _^_, _≤_, _<_}
 use native.Mathlib.Decide.{ℕ-discrete}
+use native.Mathlib.Nat.{mul-comm}
 use native.Mathlib.Omega.{arith}
 use mathlib.Core.Path.{_≡_, refl, ap, sym, subst, _∙_}
 use mathlib.Core.Bool.{Bool, true, false, not, _&&_, _||_, false≢true}
 use mathlib.Core.Logic.{_⊎_, inl, inr, ⊎-elim, by-cases, _↔_}
 use mathlib.Core.Option.{Option, none, some}
-use mathlib.Core.List.{List, [], _∷_, _++_, map}
+use mathlib.Core.List.{List, [], _∷_, map}
 use lib.ListN.{length, getD, take}
 use lib.Dec.{eqb, ltb}
 use borrow.Author.Tests.{ltb-true, lt-ltb, eqb-true, eq-eqb, not-false}
 use Rattle.diagram.specs.Words.{wordAt, kind, fieldP, fieldQ, fieldR}
-use Rattle.diagram.specs.Table.{Variable, choice, chance, Record, Table, tableOf, variableCount, recordCount, recordAt, isChoice, choiceCount, scaleOf, scale}
+use Rattle.diagram.specs.Table.{Variable, choice, chance, Record, Table, tableOf, variableCount, recordCount, rootCount, recordAt, isChoice, choiceCount, scaleOf, totalReward, scale}
 use Rattle.diagram.specs.Score.{truth, assignments, every, implies}
 use Rattle.diagram.specs.Checks as checks
-use Rattle.diagram.specs.Checks.{Check, placeZero, firstPlace, isHeading, isVariableWord, positionOf, isChild, isRecordWord, isMonotoneAt}
+use Rattle.diagram.specs.Checks.{placeZero, firstPlace, isHeading, isVariableWord, positionOf, isChild, isRecordWord, isRootWord, isMonotoneAt}
 use Rattle.diagram.proofs.Every.{both, and-true-both, every-append, every-map, each-assignment, implied, implication}
 use Rattle.diagram.proofs.Places.{none-at}
 use Rattle.diagram.proofs.Checked.{Passed}
 use Rattle.implication.proofs.Shape.{none-passes, shaped-record-word}
-use Rattle.reading.proofs.Accepted.{passed-choices, passed-scale}
-use Rattle.theorems.specs.Reasons.{Request, Reason, jobWord, tableLength, headingWord, wordCount, variableWord, choiceLimit, scaleLimit, recordWord, notMonotone, planLength, planMark, fullPlanMark, percentLimit, budgetLimit, bufferLength, HeadingWord, ChoiceWord, ChanceWord, Child, RecordWord, MonotoneAt, Wrong, WholeTable}
+use Rattle.reading.proofs.Accepted.{passed-choices, passed-product, passed-scale}
+use Rattle.theorems.specs.Reasons.{Request, Reason, jobWord, tableLength, headingWord, wordCount, variableWord, choiceLimit, scaleLimit, recordWord, rootWord, rewardLimit, notMonotone, planLength, planMark, fullPlanMark, percentLimit, budgetLimit, bufferLength, HeadingWord, ChoiceWord, ChanceWord, Child, RecordWord, RootWord, MonotoneAt, Wrong, WholeTable}
 use Rattle.theorems.proofs.Saying.{Says, says-less, says-most, says-same, in-words, says-not, says-both, says-either, says-then}
 
 -- ---------------------------------------------------------------------------
@@ -124,9 +125,9 @@ heading-says w =
     (says-both _ _
     (says-both _ _ (says-same (kind w) 1) (says-both _ _ (says-most 1 (fieldP w)) (says-most (fieldP w) 60)))
     (says-both _ _ (says-most 1 (fieldQ w)) (says-most (fieldQ w) 254)))
-    (says-same (fieldR w) 0))
-    (λ h. record { kind-is = h .0 .0 .0; variables = h .0 .0 .1; records = h .0 .1; rest = h .1 })
-    (λ h. (((h .kind-is, h .variables), h .records), h .rest))
+    (says-most (fieldR w) 16))
+    (λ h. record { kind-is = h .0 .0 .0; variables = h .0 .0 .1; records = h .0 .1; roots = h .1 })
+    (λ h. (((h .kind-is, h .variables), h .records), h .roots))
 
 variable-says : (p w : ℕ) → Says (isVariableWord p w) (ChoiceWord p w ⊎ ChanceWord p w)
 unfolding isVariableWord
@@ -183,6 +184,26 @@ record-says v rs k w = (
       (child-says v rs k (fieldP w) (fieldR w) (h .place) .1 (h .lo))),
 )
 
+-- a record's node number
+node-says : (n x : ℕ) → ((2 ≤ x) × (x ≤ n + 1)) ↔ ((k : ℕ) × (k < n) × (x ≡ k + 2))
+node-says n x = (
+  λ h. let least = h .0 in let most = h .1 in (x - 2, omega arith, omega arith),
+  λ h. let less = h .1 in let e = h .2 in (omega arith, omega arith),
+)
+
+root-says : (n w : ℕ) → Says (isRootWord n w) (RootWord n w)
+unfolding isRootWord
+root-says n w =
+    let node = node-says n (fieldR w) in
+    in-words (isRootWord n w)
+    (says-both _ _
+    (says-both _ _
+    (says-both _ _ (says-same (kind w) 6) (says-same (fieldP w) 0))
+    (says-both _ _ (says-most 1 (fieldQ w)) (says-most (fieldQ w) 64)))
+    (says-both _ _ (says-most 2 (fieldR w)) (says-most (fieldR w) (n + 1))))
+    (λ h. record { kind-is = h .0 .0 .0; zero = h .0 .0 .1; reward = h .0 .1; node = node .0 (h .1) })
+    (λ h. (((h .kind-is, h .zero), h .reward), node .1 (h .node)))
+
 -- ---------------------------------------------------------------------------
 -- Monotone records
 
@@ -229,7 +250,7 @@ module _ (q : Request) where
       let n = length (q .file) in
       at-zero q tableLength _
       (in-words _
-      (says-either _ _ (says-either _ _ (says-less n 4) (says-less 1260 n)) (says-not _ (says-same (n % 4) 0)))
+      (says-either _ _ (says-either _ _ (says-less n 4) (says-less 1324 n)) (says-not _ (says-same (n % 4) 0)))
       (⊎-elim (⊎-elim inl (λ h. inr (inl h))) (λ h. inr (inr h)))
       (⊎-elim (λ h. inl (inl h)) (⊎-elim (λ h. inl (inr h)) inr)))
       (λ i. (λ h. h, λ h. h))
@@ -280,6 +301,21 @@ module _ (q : Request) where
       let at : 1 + v + k - (1 + v) ≡ k = omega arith in
       rw at (says-not _ (record-says v rs k (wordAt (q .file) (1 + v + k))))))
 
+  pub row-26 : Renders q rootWord (checks.rootFault (q .file))
+  unfolding Wrong checks.rootFault
+  row-26 =
+      let first = 1 + variableCount (q .file) + recordCount (q .file) in
+      along q rootWord _ first (rootCount (q .file))
+      (counted-from first (rootCount (q .file)) _
+      (λ i r. RootWord (recordCount (q .file)) (wordAt (q .file) i) → ⊥)
+      (λ r l. says-not _ (root-says (recordCount (q .file)) (wordAt (q .file) (first + r)))))
+
+  pub row-27 : Renders q rewardLimit (checks.rewardFault (q .file))
+  unfolding Wrong checks.rewardFault scale
+  row-27 =
+      rw (mul-comm (totalReward (tableOf (q .file) .roots)) (scaleOf (tableOf (q .file) .variables)))
+      (at-zero q rewardLimit _ (says-less (2 ^ 56) _) (λ i. (λ h. h, λ h. h)))
+
   pub row-18 : Renders q notMonotone (checks.monotoneFault (q .file))
   unfolding Wrong checks.monotoneFault
   row-18 =
@@ -325,7 +361,7 @@ module _ (q : Request) where
 -- A file that no check finds at fault
 
 pub whole-table : {s : List ℕ} → Passed s → WholeTable s
-unfolding checks.headingFault checks.countFault checks.variableFault checks.monotoneFault scale
+unfolding checks.headingFault checks.countFault checks.variableFault checks.rootFault checks.monotoneFault scale
 whole-table {s} h =
     record {
       size = eqb-true _ _ (none-passes _ (h .count));
@@ -334,8 +370,10 @@ whole-table {s} h =
           let at : 1 + p - 1 ≡ p = omega arith in
           variable-says p (wordAt s (1 + p)) .0 (not-false _ (rw at at (none-at _ 1 (variableCount s) p (h .variables) l)));
       choices = passed-choices h;
-      scale = passed-scale h;
+      product = passed-product h;
+      scale = rw (mul-comm (scaleOf (tableOf s .variables)) (totalReward (tableOf s .roots))) (passed-scale h);
       records = λ k l. record-says _ _ k _ .0 (shaped-record-word s (h .records) k l);
+      roots = λ r l. root-says _ _ .0 (not-false _ (none-at _ (1 + variableCount s + recordCount s) (rootCount s) r (h .roots) l));
       monotone = λ k l.
           let at : 1 + variableCount s + k - (1 + variableCount s) ≡ k = omega arith in
           monotone-says (tableOf s) k .0 (not-false _ (rw at at (none-at _ (1 + variableCount s) (recordCount s) k (h .monotone) l)));

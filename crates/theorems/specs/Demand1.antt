@@ -79,11 +79,11 @@ Services q =
     × LeavesBuffer search-answer.Refused answer held written)
 
 -- The request that the program makes of the bytes that it can read: a job word with percent and kits, "P plus 64 times Q", and the table after it,
--- searched "from the fully open plan"; "at most 1,265 bytes are read"
+-- searched "from the fully open plan"; "the program reads 1,329" bytes
 unfoldable pub jobOf : (input : List ℕ) → Request
 jobOf input =
-    let job = wordAt (take 1265 input) 0 in
-    let file = drop 4 (take 1265 input) in
+    let job = wordAt (take 1329 input) 0 in
+    let file = drop 4 (take 1329 input) in
     let choices = choiceCount (tableOf file .variables) in
     record { job = job; file = file; plan = replicate choices 0; percent = fieldR job; budget = fieldP job + 64 * fieldQ job; size = choices }
 

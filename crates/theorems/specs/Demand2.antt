@@ -1,12 +1,12 @@
 -- Demand 2 of the briefing, in its words and with its quantifiers written out. It speaks of what `score` returns and of what `search` returns and writes;
 -- nothing in it is about a visit or a fold. Document 01 explains the words.
-use Prim.Native.Nat.{ℕ, _≤_, _<_}
+use Prim.Native.Nat.{ℕ, _*_, _≤_, _<_}
 use mathlib.Core.Path.{_≡_}
 use mathlib.Core.Bool.{cond}
 use mathlib.Core.Logic.{_⊎_, _↔_}
 use mathlib.Core.List.{List, map}
 use lib.ListN.{length, getD}
-use Rattle.diagram.specs.Table.{tableOf, root}
+use Rattle.diagram.specs.Table.{Root, tableOf}
 use Rattle.diagram.specs.Score.{truth, settlings, weight, sum, score}
 use Rattle.diagram.specs.Plans.{cost}
 use Rattle.diagram.specs.Services.{scoreOutcome, searchOutcome, searchBuffer}
@@ -20,14 +20,19 @@ use Rattle.search.specs.Answer.{searchOf}
 use Rattle.theorems.specs.Plans.{LegalMarking, FullPlan, Candidate, NoCandidate}
 use Rattle.theorems.specs.Reasons.{Accepted}
 
--- "the weighted count of chance outcomes that lead to true": the sum, over all settlings of all chances with the choices as the plan says, of the
--- products of those whose walk from the root ends in true
-abbrev pub weightedCount : (file plan : List ℕ) → ℕ
-weightedCount file plan =
+-- "the weighted count of chance outcomes that lead to true" from one root: the sum, over all settlings of all chances with the choices as the plan says, of
+-- the products of those whose walk from its node ends in true
+abbrev pub countFrom : (file plan : List ℕ) → (node : ℕ) → ℕ
+countFrom file plan node =
     sum
     (map
-    (λ s. cond (truth (tableOf file .records) s (root (tableOf file))) (weight (tableOf file .variables) s) 0)
+    (λ s. cond (truth (tableOf file .records) s node) (weight (tableOf file .variables) s) 0)
     (settlings (tableOf file .variables) plan))
+
+-- "The score is the sum of reward times that root's score" (document 02, paper 3)
+abbrev pub weightedCount : (file plan : List ℕ) → ℕ
+weightedCount file plan =
+    sum (map (λ (r : Root). r .reward * countFrom file plan (r .node)) (tableOf file .roots))
 
 -- "at the lowest choice number where two differ, the one that takes it"
 pub record TakesFirst (way other : List ℕ) : Type 0 where
@@ -66,9 +71,10 @@ pub record SearchHolds (file plan : List ℕ) (budget percent : ℕ) (held : Lis
   -- and, of demand 1, "a turned-away request leaves the plan and the drops as they were"
   pub untouched : answer ≡ refused-32 → written ≡ held
 
--- Demand 2, of every accepted table. What is called the score here is the weighted count. "The score of a full plan is the weighted count of chance outcomes that lead to true [..] with no rounding", for
--- every full plan; and for every legal marking, and kits and percent within their limits ("Once every other check passes"), what is said of the search. Its
--- buffer has one place a choice. What is assumed of answer and buffer is word for word what `score` and `search` promise.
+-- Demand 2, of every accepted table. What is called the score here is the weighted count. "The score of a full plan is the weighted count of chance outcomes
+-- that lead to true [..] with no rounding", for every full plan; and for every legal marking, and kits and percent within their limits ("Once every other
+-- check passes"), what is said of the search. Its buffer has one place a choice. What is assumed of answer and buffer is word for word what `score` and
+-- `search` promise.
 unfoldable pub Demand2 : Type 0
 Demand2 =
     (file : List ℕ) → Accepted file →

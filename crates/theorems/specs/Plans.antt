@@ -1,4 +1,4 @@
--- What document 01 says of plans, completions and candidates, and document 02, papers 1 and 2, of passing and kits, in words that the demands share, with
+-- What document 01 says of plans, completions and candidates, and document 02, papers 1, 2 and 3, of passing, kits and B, in words that the demands share, with
 -- every quantifier written out: no list of completions is gone through.
 use Prim.Native.Nat.{ℕ, _*_, _≤_, _<_}
 use mathlib.Core.Path.{_≡_}

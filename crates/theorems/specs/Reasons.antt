@@ -1,4 +1,4 @@
--- Document 01, "Turned away", row by row, as papers 1 and 2 of document 02 have it: what is wrong with a request, and at which place. A row does not
+-- Document 01, "Turned away", row by row, as papers 1, 2 and 3 of document 02 have it: what is wrong with a request, and at which place. A row does not
 -- search: it says of each place whether the request is wrong there.
 use Prim.Native.Nat.{ℕ, _+_, _*_, _%_, _^_, _≤_, _<_}
 use mathlib.Core.Path.{_≡_}
@@ -7,7 +7,7 @@ use mathlib.Core.Logic.{_⊎_}
 use mathlib.Core.List.{List, [], _∷_, _++_}
 use lib.ListN.{length, getD, take}
 use Rattle.diagram.specs.Words.{wordAt, kind, fieldP, fieldQ, fieldR}
-use Rattle.diagram.specs.Table.{choice, chance, Record, Table, tableOf, variableCount, recordCount, recordAt, choiceCount, scaleOf}
+use Rattle.diagram.specs.Table.{choice, chance, Record, Table, tableOf, variableCount, recordCount, rootCount, recordAt, choiceCount, scaleOf, totalReward}
 use Rattle.diagram.specs.Score.{truth}
 use Rattle.theorems.specs.Plans.{NonePasses, NoCandidate}
 
@@ -33,6 +33,8 @@ pub data Reason : Type 0 where
   choiceLimit : Reason
   scaleLimit : Reason
   recordWord : Reason
+  rootWord : Reason
+  rewardLimit : Reason
   notMonotone : Reason
   planLength : Reason
   planMark : Reason
@@ -53,6 +55,8 @@ numberOf variableWord = 14
 numberOf choiceLimit = 15
 numberOf scaleLimit = 16
 numberOf recordWord = 17
+numberOf rootWord = 26
+numberOf rewardLimit = 27
 numberOf notMonotone = 18
 numberOf planLength = 21
 numberOf planMark = 22
@@ -70,12 +74,12 @@ numberOf noCandidate = 32
 abbrev pub JobWord : ℕ → Type 0
 JobWord w = kind w ≡ 5
 
--- "1 heading | V, variables, 1 to 60 | N, records, 1 to 254 | 0"
+-- "1 heading | V, variables, 1 to 60 | N, records, 1 to 254 |" and R, which "gives a number of root words, 0 to 16"
 pub record HeadingWord (w : ℕ) : Type 0 where
   pub kind-is : kind w ≡ 1
   pub variables : (1 ≤ fieldP w) × (fieldP w ≤ 60)
   pub records : (1 ≤ fieldQ w) × (fieldQ w ≤ 254)
-  pub rest : fieldR w ≡ 0
+  pub roots : fieldR w ≤ 16
 
 -- "2 choice | its position | 0 |" and R, which "now holds its kits less one, 0 to 500"
 pub record ChoiceWord (position w : ℕ) : Type 0 where
@@ -104,6 +108,13 @@ pub record RecordWord (v : ℕ) (records : List Record) (k w : ℕ) : Type 0 whe
   pub hi : Child records k (fieldP w) (fieldQ w)
   pub lo : Child records k (fieldP w) (fieldR w)
 
+-- "kind 6, P zero, Q a reward of 1 to 64, R a record's node number", of n records: "record k, from 0, is node k+2"
+pub record RootWord (n w : ℕ) : Type 0 where
+  pub kind-is : kind w ≡ 6
+  pub zero : fieldP w ≡ 0
+  pub reward : (1 ≤ fieldQ w) × (fieldQ w ≤ 64)
+  pub node : (k : ℕ) × (k < n) × (fieldR w ≡ k + 2)
+
 -- "at every choice record, reachable or not, each settling of all variables that leads from lo to true also leads from hi to true": at record k
 abbrev pub MonotoneAt : Table → ℕ → Type 0
 MonotoneAt t k =
@@ -123,16 +134,21 @@ AtVariable file i p = (p < variableCount file) × (i ≡ 1 + p)
 abbrev pub AtRecord : (file : List ℕ) → (i k : ℕ) → Type 0
 AtRecord file i k = (k < recordCount file) × (i ≡ 1 + variableCount file + k)
 
+-- Place i is word 1 + V + N + r, of root word r: root words "follow the records"
+abbrev pub AtRoot : (file : List ℕ) → (i r : ℕ) → Type 0
+AtRoot file i r = (r < rootCount file) × (i ≡ 1 + variableCount file + recordCount file + r)
+
 -- Whether a request is wrong at a place, in the words of each row. "Places in a file count words from the heading, which is 0."
 unfoldable pub Wrong : Request → Reason → (place : ℕ) → Type 0
 -- 10: "job word missing, kind not 5"; a missing word is 0, which is of no kind
 Wrong q jobWord i = (i ≡ 0) × (JobWord (q .job) → ⊥)
--- 11: "table length under 4, over 1,260 or no multiple of 4"
-Wrong q tableLength i = (i ≡ 0) × ((length (q .file) < 4) ⊎ ((1260 < length (q .file)) ⊎ (length (q .file) % 4 ≡ 0 → ⊥)))
+-- 11: "table length under 4, over [..] or no multiple of 4"; it "allows 1,324 bytes"
+Wrong q tableLength i = (i ≡ 0) × ((length (q .file) < 4) ⊎ ((1324 < length (q .file)) ⊎ (length (q .file) % 4 ≡ 0 → ⊥)))
 -- 12: "heading's kind or a field wrong"
 Wrong q headingWord i = (i ≡ 0) × (HeadingWord (wordAt (q .file) 0) → ⊥)
--- 13: "length is not 4 times (1 + V + N)"
-Wrong q wordCount i = (i ≡ 0) × (length (q .file) ≡ 4 * (1 + variableCount (q .file) + recordCount (q .file)) → ⊥)
+-- 13: "length is not 4 times (1 + V + N)", and it "counts root words"
+Wrong q wordCount i =
+    (i ≡ 0) × (length (q .file) ≡ 4 * (1 + variableCount (q .file) + recordCount (q .file) + rootCount (q .file)) → ⊥)
 -- 14: "a variable word's kind or a field wrong"
 Wrong q variableWord i =
     (p : ℕ) × AtVariable (q .file) i p × ((ChoiceWord p (wordAt (q .file) i) ⊎ ChanceWord p (wordAt (q .file) i)) → ⊥)
@@ -143,6 +159,10 @@ Wrong q scaleLimit i = (p : ℕ) × AtVariable (q .file) i p × (2 ^ 56 < scaleO
 -- 17: "a record's kind, position or child wrong"
 Wrong q recordWord i =
     (k : ℕ) × AtRecord (q .file) i k × (RecordWord (variableCount (q .file)) (tableOf (q .file) .records) k (wordAt (q .file) i) → ⊥)
+-- 26: "the first wrong root word (its place)"
+Wrong q rootWord i = (r : ℕ) × AtRoot (q .file) i r × (RootWord (recordCount (q .file)) (wordAt (q .file) i) → ⊥)
+-- 27: "B times the total reward is above 2^56 (place 0)", B being the product of b
+Wrong q rewardLimit i = (i ≡ 0) × (2 ^ 56 < scaleOf (tableOf (q .file) .variables) * totalReward (tableOf (q .file) .roots))
 -- 18: "not monotone"
 Wrong q notMonotone i = (k : ℕ) × AtRecord (q .file) i k × (MonotoneAt (tableOf (q .file)) k → ⊥)
 -- 21: "plan length is not the number of choices"
@@ -165,10 +185,10 @@ Wrong q noCandidate i = (i ≡ 0) × NoCandidate (q .file) (q .plan) (q .budget)
 -- ---------------------------------------------------------------------------
 -- "Checks run in this table's order, each over the whole file before the next; those a service has no input for are skipped."
 
--- The rows of every service, on the file
+-- The rows of every service, on the file; 26 and 27 are "the two checked after 17 and before 18"
 unfoldable pub fileReasons : List Reason
 fileReasons =
-    tableLength ∷ headingWord ∷ wordCount ∷ variableWord ∷ choiceLimit ∷ scaleLimit ∷ recordWord ∷ notMonotone ∷ []
+    tableLength ∷ headingWord ∷ wordCount ∷ variableWord ∷ choiceLimit ∷ scaleLimit ∷ recordWord ∷ rootWord ∷ rewardLimit ∷ notMonotone ∷ []
 
 -- Those of the score
 unfoldable pub scoreReasons : List Reason
@@ -212,13 +232,15 @@ fileAlone file = record { job = 0; file = file; plan = []; percent = 0; budget =
 abbrev pub Accepted : (file : List ℕ) → Type 0
 Accepted file = NoReason (fileAlone file) fileReasons
 
--- A table file that is right from its first word to its last: "one heading, V variable words with positions 0 to V-1 in order, then N records", within
--- all limits
+-- A table file that is right from its first word to its last: "one heading, V variable words with positions 0 to V-1 in order, then N records", then root
+-- words, within all limits
 pub record WholeTable (file : List ℕ) : Type 0 where
-  pub size : length file ≡ 4 * (1 + variableCount file + recordCount file)
+  pub size : length file ≡ 4 * (1 + variableCount file + recordCount file + rootCount file)
   pub heading : HeadingWord (wordAt file 0)
   pub variables : (p : ℕ) → p < variableCount file → ChoiceWord p (wordAt file (1 + p)) ⊎ ChanceWord p (wordAt file (1 + p))
   pub choices : choiceCount (tableOf file .variables) ≤ 20
-  pub scale : scaleOf (tableOf file .variables) ≤ 2 ^ 56
+  pub product : scaleOf (tableOf file .variables) ≤ 2 ^ 56
+  pub scale : scaleOf (tableOf file .variables) * totalReward (tableOf file .roots) ≤ 2 ^ 56
   pub records : (k : ℕ) → k < recordCount file → RecordWord (variableCount file) (tableOf file .records) k (wordAt file (1 + variableCount file + k))
+  pub roots : (r : ℕ) → r < rootCount file → RootWord (recordCount file) (wordAt file (1 + variableCount file + recordCount file + r))
   pub monotone : (k : ℕ) → k < recordCount file → MonotoneAt (tableOf file) k

@@ -1,4 +1,4 @@
--- `read_records` meets its contract: a file that the checks 11 to 17 refuse leaves the arrays, those of any other hold its records, and check 18 decides.
+-- `read_records` meets its contract: a file that a check before 18 refuses leaves the arrays, those of any other hold its records, and check 18 decides.
 -- Assumes nothing.
 use mathlib.Core.Path.{_≡_, sym, _∙_}
 use Rattle.diagram.specs.Services.{answered}
@@ -9,7 +9,7 @@ use borrow.Author.Needs.{needs}
 use Rattle.reading.proofs.read_records.Statement.{statement}
 use Rattle.reading.proofs.read_records.Tie as tie
 
--- the checks 11 to 17 let the file through
+-- the checks before 18 let the file through
 shape : (c : tie.After-known-told) → shapeOutcome (c .before .before .before .before .before .args .file .now) ≡ answered (numbers (c .before .t .given .0 .0))
 shape c = table-as (c .before .before .before .read-shape .ensures) _ (c .before .t .given .1)
 

@@ -5,7 +5,8 @@ use mathlib.Core.Path.{_≡_, sym, _∙_}
 use mathlib.Core.Option.{none}
 use mathlib.Core.List.{List}
 use lib.ListN.{take, drop}
-use Rattle.diagram.specs.Checks.{Check, tableChecks, lengthFault, headingFault, countFault, variableFault, choiceFault, scaleFault, recordFault}
+use Rattle.diagram.specs.Checks.{Check, tableChecks, lengthFault, headingFault, countFault, variableFault, choiceFault, scaleFault, recordFault, rootFault, rewardFault}
+use Rattle.diagram.specs.Table.{tableOf, scale}
 use Rattle.diagram.specs.Services.{checked}
 use Rattle.reading.specs.Answer.{outcomeOf, shapeOutcome}
 use Rattle.reading.proofs.Outcomes.{fault-none, fault-some, bounded-none, bounded-some, summary-is, readFrom, goes-on, stops}
@@ -17,7 +18,7 @@ use Rattle.reading.proofs.read_shape.Tie as tie
 -- The checks that the file has passed at a place, and what is left of reading there
 
 abbrev rest : ℕ → List Check
-rest j = drop j (take 7 tableChecks)
+rest j = drop j (take 9 tableChecks)
 
 abbrev file-11 : tie.After-enum-told → List ℕ
 file-11 c = c .before .before .before .before .args .file .now
@@ -73,7 +74,7 @@ abbrev file-16 : tie.After-known-told7 → List ℕ
 file-16 c = file-15 (c .before .before .before .before)
 
 none-16 : (c : tie.After-known-told7) → scaleFault (file-16 c) ≡ none
-none-16 c = bounded-none _ _ _ (c .before .before .before .scale .ensures) (c .before .scale2 .given .1) .0
+none-16 c = bounded-none _ _ _ (c .before .before .before .product .ensures) (c .before .product2 .given .1) .0
 
 past-16 : (c : tie.After-known-told7) → shapeOutcome (file-16 c) ≡ readFrom (rest 6) (file-16 c)
 unfolding shapeOutcome tableChecks
@@ -88,6 +89,26 @@ none-17 c = fault-none _ (c .before .before .record-fault .ensures) (c .enum-tol
 past-17 : (c : tie.After-enum-told5) → shapeOutcome (file-17 c) ≡ readFrom (rest 7) (file-17 c)
 unfolding shapeOutcome tableChecks
 past-17 c = past-16 (c .before .before .before) ∙ goes-on _ _ (file-17 c) (none-17 c)
+
+abbrev file-26 : tie.After-enum-told6 → List ℕ
+file-26 c = file-17 (c .before .before .before)
+
+none-26 : (c : tie.After-enum-told6) → rootFault (file-26 c) ≡ none
+none-26 c = fault-none _ (c .before .before .root-fault .ensures) (c .enum-told6 .given .1)
+
+past-26 : (c : tie.After-enum-told6) → shapeOutcome (file-26 c) ≡ readFrom (rest 8) (file-26 c)
+unfolding shapeOutcome tableChecks
+past-26 c = past-17 (c .before .before .before) ∙ goes-on _ _ (file-26 c) (none-26 c)
+
+abbrev file-27 : tie.After-known-told11 → List ℕ
+file-27 c = file-26 (c .before .before .before .before)
+
+scale-27 : (c : tie.After-known-told11) → (rewardFault (file-27 c) ≡ none) × (c .before .scale2 .given .0 .0 ≡ scale (tableOf (file-27 c)))
+scale-27 c = bounded-none _ _ _ (c .before .before .before .scale .ensures) (c .before .scale2 .given .1)
+
+past-27 : (c : tie.After-known-told11) → shapeOutcome (file-27 c) ≡ readFrom (rest 9) (file-27 c)
+unfolding shapeOutcome tableChecks
+past-27 c = past-26 (c .before .before .before .before) ∙ goes-on _ _ (file-27 c) (scale-27 c .0)
 
 -- ---------------------------------------------------------------------------
 -- The needs
@@ -172,11 +193,11 @@ returns-5 : tie.Need-returns-5
 unfolding outcomeOf shapeOutcome tableChecks
 returns-5 c = rw (c .refuse5 .ensures) (stops _ (rest 5) (file-14 (c .before .before .before .before .before)) _ (bounded-some _ _ _ (c .before .before .before .before .choices .ensures) (c .before .before .place5 .given .1)) ∙ sym (past-14 (c .before .before .before .before .before)))
 
-scale-requires : tie.Need-scale-requires
-scale-requires c κs = search needs
+product-requires : tie.Need-product-requires
+product-requires c κs = search needs
 
-enum-known-scale : tie.Need-enum-known-scale
-enum-known-scale c = search needs
+enum-known-product : tie.Need-enum-known-product
+enum-known-product c = search needs
 
 enum-known-place-6 : tie.Need-enum-known-place-6
 enum-known-place-6 c = search needs
@@ -186,7 +207,7 @@ refuse-requires-6 c κs = search needs
 
 returns-6 : tie.Need-returns-6
 unfolding outcomeOf shapeOutcome tableChecks
-returns-6 c = rw (c .refuse6 .ensures) (stops _ (rest 6) (file-15 (c .before .before .before .before .before)) _ (bounded-some _ _ _ (c .before .before .before .before .scale .ensures) (c .before .before .place6 .given .1)) ∙ sym (past-15 (c .before .before .before .before .before)))
+returns-6 c = rw (c .refuse6 .ensures) (stops _ (rest 6) (file-15 (c .before .before .before .before .before)) _ (bounded-some _ _ _ (c .before .before .before .before .product .ensures) (c .before .before .place6 .given .1)) ∙ sym (past-15 (c .before .before .before .before .before)))
 
 record-fault-requires : tie.Need-record-fault-requires
 record-fault-requires c κs = none-12 (c .before .before .before .before .before .before .before .before .before .before .before .before .before .before)
@@ -204,25 +225,57 @@ returns-7 c = rw (c .refuse7 .ensures) (stops _ (rest 7) (file-16 (c .before .be
 enum-told-5 : tie.Need-enum-told-5
 enum-told-5 c = search needs
 
+root-fault-requires : tie.Need-root-fault-requires
+root-fault-requires c κs = search needs
+
+enum-known-place-8 : tie.Need-enum-known-place-8
+enum-known-place-8 c = search needs
+
+refuse-requires-8 : tie.Need-refuse-requires-8
+refuse-requires-8 c κs = search needs
+
+returns-8 : tie.Need-returns-8
+unfolding outcomeOf shapeOutcome tableChecks
+returns-8 c = rw (c .refuse8 .ensures) (stops _ (rest 8) (file-17 (c .before .before .before .before .before)) _ (fault-some _ _ (c .before .before .before .before .root-fault .ensures) (c .before .before .place8 .given .1)) ∙ sym (past-17 (c .before .before .before .before .before)))
+
+enum-told-6 : tie.Need-enum-told-6
+enum-told-6 c = search needs
+
+scale-requires : tie.Need-scale-requires
+scale-requires c κs =
+    let p16 = c .before .before .before .before .before .before in
+    let product = bounded-none _ _ _ (p16 .before .before .before .product .ensures) (p16 .before .product2 .given .1) .1 in
+    ((none-12 (c .before .before .before .before .before .before .before .before .before .before .before .before .before .before .before .before .before .before .before .before), none-26 c), product)
+
+enum-known-scale : tie.Need-enum-known-scale
+enum-known-scale c = search needs
+
+enum-known-place-9 : tie.Need-enum-known-place-9
+enum-known-place-9 c = search needs
+
+refuse-requires-9 : tie.Need-refuse-requires-9
+refuse-requires-9 c κs = search needs
+
+returns-9 : tie.Need-returns-9
+unfolding outcomeOf shapeOutcome tableChecks
+returns-9 c = rw (c .refuse9 .ensures) (stops _ (rest 9) (file-26 (c .before .before .before .before .before)) _ (bounded-some _ _ _ (c .before .before .before .before .scale .ensures) (c .before .before .place9 .given .1)) ∙ sym (past-26 (c .before .before .before .before .before)))
+
 variable-count-requires : tie.Need-variable-count-requires
 variable-count-requires c κs = search needs
 
-cast-t23 : tie.Need-cast-t23
-cast-t23 c = search needs
+cast-t30 : tie.Need-cast-t30
+cast-t30 c = search needs
 
 record-count-requires : tie.Need-record-count-requires
 record-count-requires c κs = search needs
 
-returns-8 : tie.Need-returns-8
+returns-10 : tie.Need-returns-10
 unfolding outcomeOf checked tableChecks
-returns-8 c =
-    let p17 = c .before .before in
-    let p16 = p17 .before .before .before in
-    let p15 = p16 .before .before .before .before in
-    let s = file-17 p17 in
+returns-10 c =
+    let p27 = c .before .before in
+    let p15 = p27 .before .before .before .before .before .before .before .before .before .before .before .before .before .before in
     let choices = bounded-none _ _ _ (p15 .before .before .before .choices .ensures) (p15 .before .choices2 .given .1) .1 in
-    let product = bounded-none _ _ _ (p16 .before .before .before .scale .ensures) (p16 .before .scale2 .given .1) .1 in
-    summary-is s (c .before .variable-count .ensures .0) (c .record-count .ensures .0) choices product ∙ sym (past-17 p17)
+    summary-is (file-27 p27) (c .before .variable-count .ensures .0) (c .record-count .ensures .0) choices (scale-27 p27 .1) ∙ sym (past-27 p27)
 
 pub read-shape-spec : {M : Type 1} → statement M
 read-shape-spec =
@@ -253,8 +306,8 @@ read-shape-spec =
     enum-known-place-5
     refuse-requires-5
     returns-5
-    scale-requires
-    enum-known-scale
+    product-requires
+    enum-known-product
     enum-known-place-6
     refuse-requires-6
     returns-6
@@ -263,7 +316,17 @@ read-shape-spec =
     refuse-requires-7
     returns-7
     enum-told-5
+    root-fault-requires
+    enum-known-place-8
+    refuse-requires-8
+    returns-8
+    enum-told-6
+    scale-requires
+    enum-known-scale
+    enum-known-place-9
+    refuse-requires-9
+    returns-9
     variable-count-requires
-    cast-t23
+    cast-t30
     record-count-requires
-    returns-8)
+    returns-10)

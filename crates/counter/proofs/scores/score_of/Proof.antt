@@ -1,17 +1,20 @@
--- `counter::scores::score_of` is safe and ends: its loop counts `holding` up to `end`. Assumes nothing.
+-- `counter::scores::score_of` is safe and ends: its loop counts `i` up to `end`. Assumes nothing.
 use Prim.Native.Nat.{_-_}
 use native.Mathlib.Omega.{arith}
 use Rattle.counter.proofs.scores.score_of.Statement.{statement}
 use Rattle.counter.proofs.scores.score_of.Tie as tie
 
 abbrev Inv-loop : tie.InvT-loop
-Inv-loop words full root end sum₀ holding₀ sum holding = Unit
+Inv-loop words full end sum₀ i₀ sum i = Unit
 
 abbrev μ-loop : tie.MeasureT-loop
-μ-loop words full root end sum₀ holding₀ sum holding = end - holding
+μ-loop words full end sum₀ i₀ sum i = end - i
 
-add-holding : tie.Need-add-holding Inv-loop μ-loop
-add-holding c = omega arith
+add-requires : tie.Need-add-requires Inv-loop μ-loop
+add-requires c = omega arith
+
+add-i : tie.Need-add-i Inv-loop μ-loop
+add-i c = omega arith
 
 loop-less : tie.Need-loop-less Inv-loop μ-loop
 loop-less c = omega arith
@@ -23,17 +26,12 @@ score-of-spec =
     Inv-loop
     μ-loop
     (λ _ _. tt)
-    (λ _ _. tt)
-    (λ _ _. tt)
-    (λ _ _. tt)
-    (λ _ _. tt)
-    (λ _ _. tt)
     (λ _. tt)
     (λ _ _. tt)
     (λ _ _. tt)
     (λ _ _. tt)
-    (λ _ _. tt)
-    add-holding
+    add-requires
+    add-i
     loop-less
     (λ _. tt)
     (λ _. tt))

@@ -1,4 +1,4 @@
--- `counter::table::decode` is safe and ends: its loop counts `i` up to 320, and the array keeps its length. Assumes nothing.
+-- `counter::table::decode` is safe and ends: its loop counts `i` up to 331, and the array keeps its length. Assumes nothing.
 use Prim.Native.Nat.{_-_}
 use native.Mathlib.Omega.{arith}
 use mathlib.Core.Path.{_≡_, refl}
@@ -7,10 +7,10 @@ use Rattle.counter.proofs.table.decode.Statement.{statement}
 use Rattle.counter.proofs.table.decode.Tie as tie
 
 abbrev Inv-loop : tie.InvT-loop
-Inv-loop file words₀ i₀ words i = length words ≡ 320
+Inv-loop file words₀ i₀ words i = length words ≡ 331
 
 abbrev μ-loop : tie.MeasureT-loop
-μ-loop file words₀ i₀ words i = 320 - i
+μ-loop file words₀ i₀ words i = 331 - i
 
 loop-holds : tie.Need-loop-holds Inv-loop μ-loop
 loop-holds c = refl

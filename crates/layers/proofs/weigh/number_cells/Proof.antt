@@ -1,4 +1,4 @@
--- `number_cells` meets its contract. The loop's invariant: the cells of the first i nodes, and the root's, are numbered. The measure is the number of nodes
+-- `number_cells` meets its contract. The loop's invariant: the cells of the first i nodes, and the roots', are numbered. The measure is the number of nodes
 -- left. Assumes nothing.
 use Prim.Native.Nat.{ℕ, _-_, _≤_}
 use native.Mathlib.Omega.{arith}
@@ -10,20 +10,17 @@ use Rattle.layers.proofs.weigh.number_cells.Statement.{statement}
 use Rattle.layers.proofs.weigh.number_cells.Tie as tie
 
 abbrev Inv-loop : tie.InvT-loop
-Inv-loop n order numbers₀ i₀ numbers i = (i ≤ n) × (length numbers ≡ 512) × Numbered i order numbers
+Inv-loop n order numbers₀ i₀ numbers i = (i ≤ n) × (length numbers ≡ 544) × Numbered i order numbers
 
 abbrev μ-loop : tie.MeasureT-loop
 μ-loop n order numbers₀ i₀ numbers i = n - i
 
 -- the array's length
-long : (c : tie.Start Inv-loop μ-loop) → length (c .args .numbers .now) ≡ 512
-long c = ap length (c .pre .1) ∙ length-replicate {A = ℕ} 512 0
-
-element-write-numbers : tie.Need-element-write-numbers Inv-loop μ-loop
-element-write-numbers c = omega (arith, long c)
+long : (c : tie.Start Inv-loop μ-loop) → length (c .args .numbers .now) ≡ 544
+long c = ap length (c .pre .1) ∙ length-replicate {A = ℕ} 544 1
 
 loop-holds : tie.Need-loop-holds Inv-loop μ-loop
-loop-holds c = (omega arith, simp length-set (long c), number-none (c .args .order .now) (long c) (c .pre .1))
+loop-holds c = (omega arith, long c, number-none (c .args .order .now) (c .pre .1))
 
 node-at-requires : tie.Need-node-at-requires Inv-loop μ-loop
 node-at-requires c κs =
@@ -64,7 +61,6 @@ number-cells-spec =
     (tie.spec
     Inv-loop
     μ-loop
-    element-write-numbers
     loop-holds
     node-at-requires
     number-node-requires

@@ -28,7 +28,7 @@ element-copy-out-a : tie.Need-element-copy-out-a Inv-loop μ-loop
 element-copy-out-a c = omega arith
 
 -- an arc's number is within the weights
-source : (c : tie.After-a Inv-loop μ-loop) → getD (c .before .before .before .args .list .now) (c .before .before .loop .j) 0 < 512
+source : (c : tie.After-a Inv-loop μ-loop) → getD (c .before .before .before .args .list .now) (c .before .before .loop .j) 0 < 544
 source c = c .before .before .before .pre .2 (c .before .before .loop .j)
 
 cast-a : tie.Need-cast-a Inv-loop μ-loop

@@ -1,5 +1,5 @@
--- `weigh_arcs` meets its contract. The loop's invariant: the arcs of the first k records, and the root's own, have their weights. The measure is the number of
--- records left. Assumes nothing.
+-- `weigh_arcs` meets its contract. The loop's invariant: the arcs of the first k records have their weights. The measure is the number of records left.
+-- Assumes nothing.
 use Prim.Native.Nat.{ℕ, _+_, _-_, _≤_}
 use native.Mathlib.Omega.{arith}
 use mathlib.Core.Path.{_≡_, _∙_}
@@ -22,7 +22,7 @@ low ps ms ws k = lowKept (markAtNode ps ms k) (getD ws (k + 2) 0)
 abbrev Inv-loop : tie.InvT-loop
 Inv-loop n positions marks high-arcs low-arcs weights₀ k₀ weights k =
     (k ≤ n)
-    × (length weights ≡ 512)
+    × (length weights ≡ 544)
     × Weighted k (high positions marks high-arcs) (low positions marks low-arcs) weights
 
 abbrev μ-loop : tie.MeasureT-loop
@@ -35,9 +35,6 @@ mark c = rw (c .mark-of .ensures, c .before .of-record .ensures)
 
 element-write-weights : tie.Need-element-write-weights Inv-loop μ-loop
 element-write-weights c = omega arith
-
-element-write-weights-2 : tie.Need-element-write-weights-2 Inv-loop μ-loop
-element-write-weights-2 c = omega arith
 
 loop-holds : tie.Need-loop-holds Inv-loop μ-loop
 loop-holds c = (omega arith, simp length-set (c .pre .2), weigh-none _ _ (c .args .weights .now) (c .pre .2))
@@ -66,8 +63,8 @@ add-weights c = omega arith
 mul-weights : tie.Need-mul-weights Inv-loop μ-loop
 mul-weights c = omega arith
 
-element-write-weights-3 : tie.Need-element-write-weights-3 Inv-loop μ-loop
-element-write-weights-3 c = omega arith
+element-write-weights-2 : tie.Need-element-write-weights-2 Inv-loop μ-loop
+element-write-weights-2 c = omega arith
 
 add-low-kept : tie.Need-add-low-kept Inv-loop μ-loop
 add-low-kept c = omega arith
@@ -87,8 +84,8 @@ add-weights-2 c = omega arith
 mul-weights-2 : tie.Need-mul-weights-2 Inv-loop μ-loop
 mul-weights-2 c = omega arith
 
-element-write-weights-4 : tie.Need-element-write-weights-4 Inv-loop μ-loop
-element-write-weights-4 c = omega arith
+element-write-weights-3 : tie.Need-element-write-weights-3 Inv-loop μ-loop
+element-write-weights-3 c = omega arith
 
 add-k : tie.Need-add-k Inv-loop μ-loop
 add-k c = omega arith
@@ -104,7 +101,7 @@ loop-again c =
     let marked = mark (c .before .before .before .before) in (
       omega arith,
       simp length-set (inv .1),
-      weigh-next _ _ (omega arith) (inv .1) (inv .2) (c .before .before .high-weight .ensures ∙ rw marked) (c .low-kept .ensures ∙ rw marked),
+      weigh-next _ _ (omega arith) (inv .2) (c .before .before .high-weight .ensures ∙ rw marked) (c .low-kept .ensures ∙ rw marked),
     )
 
 returns : tie.Need-returns Inv-loop μ-loop
@@ -119,7 +116,6 @@ weigh-arcs-spec =
     Inv-loop
     μ-loop
     element-write-weights
-    element-write-weights-2
     loop-holds
     of-record-requires
     mark-of-requires
@@ -129,14 +125,14 @@ weigh-arcs-spec =
     high-weight-requires
     add-weights
     mul-weights
-    element-write-weights-3
+    element-write-weights-2
     add-low-kept
     mul-low-kept
     element-copy-out-low-kept
     low-kept-requires
     add-weights-2
     mul-weights-2
-    element-write-weights-4
+    element-write-weights-3
     add-k
     loop-less
     loop-again

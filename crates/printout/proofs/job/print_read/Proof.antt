@@ -1,4 +1,4 @@
--- `print_read` meets its contract: what stands after the first 1,265 bytes is not printed, so a larger n changes nothing. Assumes nothing.
+-- `print_read` meets its contract: what stands after the first 1,329 bytes is not printed, so a larger n changes nothing. Assumes nothing.
 use Prim.Native.Nat.{_≤_}
 use native.Mathlib.Omega.{arith}
 use mathlib.Core.Path.{sym}
@@ -23,7 +23,7 @@ print-requires-2 c κs = search needs
 returns-2 : tie.Need-returns-2
 returns-2 c =
     let start = c .before .before .before .args in
-    let past : 1265 ≤ start .n = omega arith in
+    let past : 1329 ≤ start .n = omega arith in
     rw (printed-part (start .input .now) past) (c .print2 .ensures)
 
 pub print-read-spec : {M : Type 1} → statement M

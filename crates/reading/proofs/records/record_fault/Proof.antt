@@ -14,7 +14,8 @@ use Rattle.implication.specs.Answer.{faultOf}
 use Rattle.implication.specs.Nodes.{Placed}
 use Rattle.implication.specs.declared.answer.Fault.the-variants.{At}
 use Rattle.implication.proofs.Shape.{heading-records, record-at-word, record-at-fault, record-test}
-use Rattle.implication.proofs.Columns.{Filled, fill-alike, fill-next, filled-placed}
+use Rattle.implication.specs.Nodes.{Filled}
+use Rattle.implication.proofs.Columns.{fill-alike, fill-next, filled-placed}
 use Rattle.reading.proofs.records.record_fault.Statement.{statement}
 use Rattle.reading.proofs.records.record_fault.Tie as tie
 

@@ -15,22 +15,28 @@ cast-v c = search needs
 record-count-requires : tie.Need-record-count-requires
 record-count-requires c κs = search needs
 
+root-word-count-requires : tie.Need-root-word-count-requires
+root-word-count-requires c κs = search needs
+
 add-if1 : tie.Need-add-if1
 add-if1 c = search needs
 
 add-if1-2 : tie.Need-add-if1-2
 add-if1-2 c = search needs
 
+add-if1-3 : tie.Need-add-if1-3
+add-if1-3 c = search needs
+
 mul-if1 : tie.Need-mul-if1
 mul-if1 c = search needs
 
 returns : tie.Need-returns
 unfolding faultOf countFault placeZero
-returns c = rw (← c .before .before .variable-count .ensures .0, ← c .before .record-count .ensures .0, eq-eqb _ _ (c .if1 .taken))
+returns c = rw (← c .before .before .before .variable-count .ensures .0, ← c .before .before .record-count .ensures .0, ← c .before .root-word-count .ensures .0, eq-eqb _ _ (c .if1 .taken))
 
 returns-2 : tie.Need-returns-2
 unfolding faultOf countFault placeZero
-returns-2 c = rw (← c .before .before .variable-count .ensures .0, ← c .before .record-count .ensures .0, ne-eqb _ _ (c .if1 .left))
+returns-2 c = rw (← c .before .before .before .variable-count .ensures .0, ← c .before .before .record-count .ensures .0, ← c .before .root-word-count .ensures .0, ne-eqb _ _ (c .if1 .left))
 
 pub count-fault-spec : {M : Type 1} → statement M
 count-fault-spec =
@@ -39,8 +45,10 @@ count-fault-spec =
     variable-count-requires
     cast-v
     record-count-requires
+    root-word-count-requires
     add-if1
     add-if1-2
+    add-if1-3
     mul-if1
     returns
     returns-2)

@@ -28,7 +28,7 @@ not-heading w fails =
     absurd (fails (eqb-true _ _ (both (eqb (kind w) 1) (front .0) .0)) (leb-true _ _ (p .0)) (leb-true _ _ (p .1)) (leb-true _ _ (q .0)) (leb-true _ _ (q .1))))
 
 -- where none of them fails, R decides
-heading-end : (w : ℕ) → kind w ≡ 1 → 1 ≤ fieldP w → fieldP w ≤ 60 → 1 ≤ fieldQ w → fieldQ w ≤ 254 → eqb (fieldR w) 0 ≡ isHeading w
+heading-end : (w : ℕ) → kind w ≡ 1 → 1 ≤ fieldP w → fieldP w ≤ 60 → 1 ≤ fieldQ w → fieldQ w ≤ 254 → leb (fieldR w) 16 ≡ isHeading w
 unfolding isHeading
 heading-end w k p v q n = simp (eq-eqb _ _ k, le-leb _ _ p, le-leb _ _ v, le-leb _ _ q, le-leb _ _ n)
 

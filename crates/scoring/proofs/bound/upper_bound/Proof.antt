@@ -1,11 +1,10 @@
--- `upper_bound` meets its contract: the arrays hold the table and the plan, and the root's value times the product of b before it is the bound.
--- Assumes nothing.
+-- `upper_bound` meets its contract: the arrays hold the table and the plan, and the sum over the roots is the bound. Assumes nothing.
 use mathlib.Core.Path.{_≡_, refl, sym, _∙_}
 use lib.ListN.{length}
 use Rattle.diagram.specs.Table.{tableOf}
 use Rattle.reading.proofs.Accepted.{records-length}
 use Rattle.scoring.specs.Passes.{Marked}
-use Rattle.scoring.proofs.Bounding.{marked, records-few}
+use Rattle.scoring.proofs.Bounding.{marked}
 use borrow.Author.Needs.{needs}
 use Rattle.scoring.proofs.bound.upper_bound.Statement.{statement}
 use Rattle.scoring.proofs.bound.upper_bound.Tie as tie
@@ -36,8 +35,7 @@ marks-by-position-requires : tie.Need-marks-by-position-requires
 marks-by-position-requires c κs = search needs
 
 bound-of-requires : tie.Need-bound-of-requires
-bound-of-requires c κs =
-    (_, _, holds (c .before .before .before), c .before .before .before .before .lay-out .ensures .1 .1, records-few (c .before .before .before .before .before .before .before .before .before .before .pre .0) _ (size (c .before .before .before .before .before .before .before)) .0)
+bound-of-requires c κs = (_, _, holds (c .before .before .before), c .before .before .before .before .lay-out .ensures .1 .1)
 
 returns : tie.Need-returns
 returns c = c .bound-of .ensures _ _ (holds (c .before .before .before .before)) (c .before .before .before .before .before .lay-out .ensures .1 .1)

@@ -1,5 +1,5 @@
--- `lay_out` meets its contract. The loop's invariant: both arrays are written up to record k. The measure is the number of records left. The root's
--- weight is the product of b before it. Assumes nothing.
+-- `lay_out` meets its contract. The loop's invariant: both arrays are written up to record k. The measure is the number of records left. Assumes
+-- nothing.
 use Prim.Native.Nat.{_-_, _≤_}
 use native.Mathlib.Omega.{arith}
 use mathlib.Core.Path.{_≡_, refl, _∙_}
@@ -8,7 +8,6 @@ use Rattle.diagram.specs.Table.{tableOf}
 use Rattle.reading.proofs.Accepted.{passed-records}
 use Rattle.scoring.specs.Value.{highArc, lowArc}
 use Rattle.scoring.proofs.Arcing.{Written, written-start, written-next, written-all, Weighs, high-weighs, low-weighs}
-use Rattle.scoring.proofs.Bounding.{records-few, root-within, root-weighs}
 use Rattle.scoring.proofs.layout.lay_out.Statement.{statement}
 use Rattle.scoring.proofs.layout.lay_out.Tie as tie
 
@@ -99,31 +98,18 @@ loop-again c =
     let read = c .before .before .before .before .before .before .before .before in
     (omega arith, inv .1, written-next _ (inv .2) (omega arith) refl (c .before .before .before .before .arc-weight .ensures ∙ high-arc read .weight), written-next _ (inv .3) (omega arith) refl (c .arc-weight2 .ensures ∙ low-arc read .weight))
 
-sub-of-record : tie.Need-sub-of-record Inv-loop μ-loop
-sub-of-record c = let pre = c .before .before .before .before .before .before .pre in records-few (pre .0 .0) _ (pre .0 .1) .0
-
-of-record-requires-2 : tie.Need-of-record-requires-2 Inv-loop μ-loop
-of-record-requires-2 c κs = let pre = c .before .before .before .before .before .before .pre in records-few (pre .0 .0) _ (pre .0 .1) .1
-
-position-of-requires : tie.Need-position-of-requires Inv-loop μ-loop
-position-of-requires c κs = search needs
-
-root-weight-requires : tie.Need-root-weight-requires Inv-loop μ-loop
-root-weight-requires c κs =
-    let pre = c .before .before .before .before .before .before .before .before .pre in
-    root-within (pre .0 .0) _ (pre .0 .1) (pre .1 .0 .positions) (c .before .before .before .before .before .before .products .ensures) (c .before .of-record2 .ensures) (c .position-of .ensures)
+roots-of-requires : tie.Need-roots-of-requires Inv-loop μ-loop
+roots-of-requires c κs =
+    let pre = c .before .before .before .before .before .before .pre in
+    (pre .0 .0, (pre .1 .0 .positions, c .before .before .before .before .products .ensures))
 
 returns : tie.Need-returns Inv-loop μ-loop
 returns c =
-    let at = c .before .before .before .before .before .loop in
-    let start = c .before .before .before .before .before .before .before .before .before in
-    let pre = start .pre in
-    let e : at .k ≡ start .args .n = omega (arith, c .before .before .before .before .loop-test .left, at .inv .0) in (
+    let at = c .before .before .before .loop in
+    let start = c .before .before .before .before .before .before .before in
+    let e : at .k ≡ start .args .n = omega (arith, c .before .before .loop-test .left, at .inv .0) in (
       written-all (start .args .high-arcs .now) (rw e at (at .inv .2)) refl,
-      (
-        written-all (start .args .low-arcs .now) (rw e at (at .inv .3)) refl,
-        root-weighs (pre .0 .0) _ (pre .0 .1) (pre .1 .0 .positions) (c .before .before .before .before .before .before .before .products .ensures) (c .before .before .of-record2 .ensures) (c .before .position-of .ensures) (c .root-weight .ensures),
-      ),
+      (written-all (start .args .low-arcs .now) (rw e at (at .inv .3)) refl, c .roots-of .ensures),
     )
 
 pub lay-out-spec : {M : Type 1} → statement M
@@ -151,8 +137,5 @@ lay-out-spec =
     add-k
     loop-less
     loop-again
-    sub-of-record
-    of-record-requires-2
-    position-of-requires
-    root-weight-requires
+    roots-of-requires
     returns)

@@ -48,7 +48,7 @@ order-records-requires c κs =
 -- the nodes in order
 ordered : (c : tie.After-order-records) →
     let a = c .before .before .before .before .before .before .args in
-    c .order-records .last .1 .1 .1 .0 ≡ placed (replicate 1024 0) 0 (joined (nodesAt (a .positions .now) (a .n)) (length (tableOf (a .file .now) .variables)))
+    c .order-records .last .1 .1 .1 .0 ≡ placed (replicate 1040 0) 0 (joined (nodesAt (a .positions .now) (a .n)) (length (tableOf (a .file .now) .variables)))
 ordered c = order-is (marked (c .before .before .before .before .before .before)) (variables (c .before .before .before)) (c .order-records .ensures .0)
 
 -- how many nodes stand before each position
@@ -67,7 +67,8 @@ lay-arcs-requires c κs =
     let monotone = passed-monotone (start .pre .0) in
     let n = few start in
     let o = ordered order in
-    ((n .1, nodes-within m monotone (n .0) o, nodes-distinct m monotone (n .0) o), ((position-within m, room-for-arcs m monotone (n .0) o), (refl, refl, refl)))
+    let e = start .pre .1 .1 .1 .1 .0 .entering in
+    ((n .1, e .few, nodes-within m monotone (n .0) e o, nodes-distinct m monotone (n .0) e o), ((position-within m, room-for-arcs m monotone (n .0) e o), (refl, refl, refl)))
 
 evaluate-requires : tie.Need-evaluate-requires
 evaluate-requires c κs =

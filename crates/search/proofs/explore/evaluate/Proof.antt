@@ -1,14 +1,15 @@
 -- `evaluate` meets its contract: with the values of the nodes, what is laid out is ready for a search from the plan. Assumes nothing.
-use Prim.Native.Nat.{_+_, _*_, _≤_}
+use Prim.Native.Nat.{_+_, _≤_}
 use native.Mathlib.Omega.{arith}
-use mathlib.Core.Path.{_≡_, refl}
+use mathlib.Core.Path.{_≡_, refl, _∙_}
 use lib.ListN.{replicate}
 use Rattle.diagram.specs.Table.{sequence, tableOf}
-use Rattle.diagram.specs.Plans.{openTaken, upperBound}
+use Rattle.diagram.specs.Plans.{openTaken}
 use Rattle.reading.proofs.Accepted.{passed-variables, passed-monotone}
 use Rattle.scoring.specs.Value.{value}
 use Rattle.scoring.specs.Passes.{over, Marked}
-use Rattle.scoring.proofs.Bounding.{records-few, root-bound, top-fits}
+use Rattle.scoring.proofs.Bounding.{records-few}
+use Rattle.scoring.proofs.HeldRoots.{root-bound, root-sum-fits}
 use Rattle.scoring.proofs.Passing.{position-within}
 use Rattle.layers.proofs.Arranging.{nodes-few, losses-fit, layered}
 use Rattle.search.proofs.Starting.{arrays-marked, ending}
@@ -46,33 +47,21 @@ weigh-losses-requires c κs =
     let monotone = passed-monotone (start .pre .0) in
     let n = few start in
     let o = start .pre .1 .1 .1 .1 .1 .nodes in
-    ((n .1, refl, position-within m, nodes-few m monotone (n .0) o), losses-fit m monotone (n .0) o (values (c .before .before)))
+    let e = start .pre .1 .1 .1 .1 .0 .entering in
+    ((n .1, refl, position-within m, nodes-few m monotone (n .0) e o), losses-fit m monotone (n .0) e o (values (c .before .before)))
 
-sub-of-record : tie.Need-sub-of-record
-sub-of-record c = few (c .before .before .before .before .before .before .before .before) .0
-
-of-record-requires : tie.Need-of-record-requires
-of-record-requires c κs = omega (arith, few (c .before .before .before .before .before .before .before .before))
-
-value-of-requires : tie.Need-value-of-requires
-value-of-requires c κs = search needs
-
--- the bound of the plan
-bound : (c : tie.After-value-of) →
-    let a = c .before .before .before .before .before .before .before .before .before .before .args in
-    a .weight * c .value-of .result ≡ upperBound (tableOf (a .file .now)) (a .plan .now)
-bound c =
-    let start = c .before .before .before .before .before .before .before .before .before .before in
-    root-bound (marked start) _ (few start .0) (values (c .before .before .before .before .before .before)) (c .before .of-record .ensures) (start .pre .1 .1 .1 .1 .0 .weighs) (c .value-of .ensures)
-
-mul-bound : tie.Need-mul-bound
-mul-bound c = record { fits = rw (bound c) (omega (arith, top-fits (marked (c .before .before .before .before .before .before .before .before .before .before)))) }
+root-sum-requires : tie.Need-root-sum-requires
+root-sum-requires c κs =
+    let start = c .before .before .before .before .before .before .before .before in
+    root-sum-fits (marked start) (start .pre .1 .1 .1 .1 .0 .entering) _ (values (c .before .before .before .before))
 
 first-visit-requires : tie.Need-first-visit-requires
 first-visit-requires c κs =
-    let start = c .before .before .before .before .before .before .before .before .before .before .before .before .before in
+    let start = c .before .before .before .before .before .before .before .before .before .before .before .before in
     let pre = start .pre in
     let m = marked start in
+    let e = pre .1 .1 .1 .1 .0 .entering in
+    let valued = values (c .before .before .before .before .before .before .before .before) in
     let laid = pre .1 .1 .1 .1 .1 in (
       pre .0,
       (
@@ -84,9 +73,8 @@ first-visit-requires c κs =
             (
               _,
               record {
-                weighs = pre .1 .1 .1 .1 .0 .weighs;
-                bounded = bound (c .before .before .before);
-                layered = layered m (passed-monotone (pre .0)) (few start .0) (laid .nodes) (values (c .before .before .before .before .before .before .before .before .before)) (laid .laid) (c .before .before .before .before .before .before .weigh-losses .ensures);
+                bounded = c .before .before .before .root-sum .ensures ∙ root-bound m e _ valued;
+                layered = layered m (passed-monotone (pre .0)) (few start .0) e (laid .nodes) valued (laid .laid) (c .before .before .before .before .before .weigh-losses .ensures);
                 ending = ending m refl (laid .nodes) (passed-variables (pre .0) .0) (laid .ending);
               },
             ),
@@ -104,9 +92,6 @@ evaluate-spec =
     (tie.spec
     values-of-requires
     weigh-losses-requires
-    sub-of-record
-    of-record-requires
-    value-of-requires
-    mul-bound
+    root-sum-requires
     first-visit-requires
     returns)

@@ -38,7 +38,7 @@ arrange-requires c κs =
             (
               record {
                 size = size counted;
-                weighs = laid .lay-out .ensures .1 .1;
+                entering = laid .lay-out .ensures .1 .1;
                 decoded = pre .1 .1 .1 .0;
                 high-arcs = laid .lay-out .ensures .0;
                 low-arcs = laid .lay-out .ensures .1 .0;

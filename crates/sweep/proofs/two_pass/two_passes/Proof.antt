@@ -8,7 +8,7 @@ use Rattle.diagram.specs.Plans.{derivative}
 use Rattle.implication.proofs.Choosing.{variables-length}
 use Rattle.reading.proofs.Accepted.{records-length, passed-variables, passed-choices, passed-monotone}
 use Rattle.scoring.specs.Passes.{Marked}
-use Rattle.scoring.proofs.Bounding.{marked, records-few}
+use Rattle.scoring.proofs.Bounding.{marked}
 use Rattle.sweep.proofs.Deriving.{drops-chosen, drops-all}
 use borrow.Author.Needs.{needs}
 use Rattle.sweep.proofs.two_pass.two_passes.Statement.{statement}
@@ -42,7 +42,7 @@ marks-by-position-requires c κs = search needs
 up-and-down-requires : tie.Need-up-and-down-requires
 up-and-down-requires c κs =
     let passed = c .before .before .before .before .before .before .before .before .before .before .pre .0 in
-    (_, _, holds (c .before .before .before), passed-monotone passed, c .before .before .before .before .lay-out .ensures .1 .1, records-few passed _ (size (c .before .before .before .before .before .before .before)) .0)
+    (_, _, holds (c .before .before .before), passed-monotone passed, c .before .before .before .before .lay-out .ensures .1 .1)
 
 by-choice-requires : tie.Need-by-choice-requires
 by-choice-requires c κs =

@@ -13,7 +13,7 @@ least-requires c κs = search needs
 
 returns : tie.Need-returns
 returns c =
-    let known : length (c .before .args .self .bytes) ≡ 1280 = search needs in
+    let known : length (c .before .args .self .bytes) ≡ 1344 = search needs in
     let within : c .least .result ≤ length (c .before .args .self .bytes) = omega (arith, c .least .ensures) in
     (within, sym (length-take-le _ _ within))
 

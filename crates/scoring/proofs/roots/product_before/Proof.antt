@@ -1,11 +1,11 @@
--- `root_weight` meets its contract. Assumes nothing.
+-- `product_before` meets its contract. Assumes nothing.
 use Prim.Native.Nat.{ℕ, _/_}
 use mathlib.Core.Path.{_≡_}
 use mathlib.Core.List.{List}
 use lib.ListN.{getD}
 use borrow.Author.Needs.{needs}
-use Rattle.scoring.proofs.layout.root_weight.Statement.{statement}
-use Rattle.scoring.proofs.layout.root_weight.Tie as tie
+use Rattle.scoring.proofs.roots.product_before.Statement.{statement}
+use Rattle.scoring.proofs.roots.product_before.Tie as tie
 
 -- the weight, at the number that the code has read
 weight-is : (qs : List ℕ) {i at : ℕ} → i ≡ at → getD qs 0 0 / getD qs i 0 ≡ getD qs 0 0 / getD qs at 0
@@ -29,8 +29,8 @@ div-result c = rw (c .before .before .number .ensures) (c .before .before .befor
 returns : tie.Need-returns
 returns c = weight-is (c .before .before .before .args .products .now) (c .before .before .number .ensures)
 
-pub root-weight-spec : {M : Type 1} → statement M
-root-weight-spec =
+pub product-before-spec : {M : Type 1} → statement M
+product-before-spec =
     tie.close
     (tie.spec
     number-requires

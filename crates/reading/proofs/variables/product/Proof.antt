@@ -1,4 +1,4 @@
--- `scale` meets its contract. The loop's invariant: the product is that of the first p variables, at most 2^56, and no place before is at fault.
+-- `product` meets its contract. The loop's invariant: the product is that of the first p variables, at most 2^56, and no place before is at fault.
 -- The measure is the number of variables left. Assumes nothing.
 use Prim.Native.Nat.{_-_, _*_, _^_, _<_}
 use native.Mathlib.Omega.{arith}
@@ -9,8 +9,8 @@ use Rattle.diagram.specs.Table.{isChoice, scaleOf, variableCount}
 use Rattle.diagram.specs.Checks.{scaleFault}
 use Rattle.reading.specs.Answer.{boundedBy}
 use Rattle.reading.proofs.Counting.{next, Prefix, prefix-start, prefix-next, prefix-above, prefix-end, scale-more, scale-same}
-use Rattle.reading.proofs.variables.scale.Statement.{statement}
-use Rattle.reading.proofs.variables.scale.Tie as tie
+use Rattle.reading.proofs.variables.product.Statement.{statement}
+use Rattle.reading.proofs.variables.product.Tie as tie
 
 abbrev Inv-loop : tie.InvT-loop
 Inv-loop file v product₀ p₀ product p = Prefix scaleOf (2 ^ 56) file p product
@@ -97,8 +97,8 @@ returns-2 : tie.Need-returns-2 Inv-loop μ-loop
 unfolding scaleFault
 returns-2 c = prefix-end scaleOf (2 ^ 56) _ _ (c .before .loop .inv) (omega arith)
 
-pub scale-spec : {M : Type 1} → statement M
-scale-spec =
+pub product-spec : {M : Type 1} → statement M
+product-spec =
     tie.close
     (tie.spec
     Inv-loop

@@ -1,0 +1,74 @@
+// The roots of a table as the passes want them, and the sum over them.
+use crate::bound::value_of;
+use diagram::Node;
+use diagram::Position;
+use reading::position_of;
+use reading::root_at;
+use reading::root_count;
+ghost use mathlib.Core.Path.{_≡_};
+ghost use Prim.Native.Nat.{_+_, _*_, _/_, _≤_, _<_, _^_};
+ghost use lib.ListN.{getD};
+ghost use Rattle.diagram.specs.Table.{Record, tableOf, variableCount};
+ghost use Rattle.diagram.proofs.Checked.{Passed};
+ghost use Rattle.implication.specs.Nodes.{column};
+ghost use Rattle.scoring.specs.Passes as passes;
+ghost use Rattle.scoring.specs.Passes.{RootsHeld, rootSum};
+
+// The roots of a table: how many they are, and at i + 2 the node of root i and what comes to it, its reward times the product of
+// b before the node. The nodes stand as the children of records do, in an array of 256, so that one function lists both (`layers`).
+pub struct Roots {
+    pub count: usize,
+    pub nodes: [u8; 256],
+    pub weights: [u64; 32],
+}
+
+// The roots of a file that has passed every check. The arrays hold its positions and the products of b.
+pub fn roots_of(file: &[u8], products: &[u64; 64], positions: &[u8; 256]) -> Roots
+    requires passed { ⌜ Passed (now file) ⌝ }
+    requires positions { ⌜ now positions ≡ column (variableCount (now file)) (λ (r : Record). r .position) (tableOf (now file) .records) ⌝ }
+    requires products { ⌜ now products ≡ passes.products (tableOf (now file)) ⌝ }
+    ensures { λ r. ⌜ RootsHeld (tableOf (now (file .entry))) r ⌝ }
+{
+    let mut nodes = [0u8; 256];
+    let mut weights = [0u64; 32];
+    let count = root_count(file);
+    let mut i = 0;
+    while i < count {
+        let root = root_at(file, i);
+        let node = root.node;
+        let reward = root.reward;
+        nodes[i + 2] = node.byte();
+        let before = product_before(products, position_of(positions, node));
+        weights[i + 2] = reward * before;
+        i += 1;
+    }
+    Roots {
+        count,
+        nodes,
+        weights,
+    }
+}
+
+// The product of b before a position.
+fn product_before(products: &[u64; 64], at: Position) -> u64
+    requires { ⌜ (at .0 < 64) × (0 < getD (now products) (at .0) 0) ⌝ }
+    ensures { λ r. ⌜ r ≡ getD (now (products .entry)) 0 0 / getD (now (products .entry)) (at .0) 0 ⌝ }
+{
+    let p = at.number();
+    products[0] / products[p]
+}
+
+// The sum, over the roots, of what comes to a root times its node's value. It fits, and there are at most 16 roots.
+pub fn root_sum(roots: Roots, values: &[u64; 256]) -> u64
+    requires { ⌜ (roots .count ≤ 16) × (rootSum roots (now values) (roots .count) ≤ 2 ^ 56) ⌝ }
+    ensures { λ r. ⌜ r ≡ rootSum roots (now (values .entry)) (roots .count) ⌝ }
+{
+    let mut sum = 0;
+    let mut i = 0;
+    while i < roots.count {
+        let node = Node::new(roots.nodes[i + 2]);
+        sum += roots.weights[i + 2] * value_of(values, node);
+        i += 1;
+    }
+    sum
+}

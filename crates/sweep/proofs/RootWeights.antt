@@ -1,0 +1,105 @@
+-- The weights that the roots of a table bring: what they come to with a value for each node, cell by cell, and from the arrays that hold the roots.
+-- Assumes of the roots that they are records' nodes, where a law says so (`Rooted`).
+use Prim.Native.Nat.{ℕ, zero, suc, _+_, _*_, _≤_, _<_, _^_}
+use native.Mathlib.Nat.{le-refl, mul-le-mul-left}
+use native.Mathlib.Decide.{ℕ-discrete}
+use native.Mathlib.Numerals.{add-one}
+use native.Mathlib.Omega.{arith}
+use mathlib.Core.Path.{_≡_, refl, ap, _∙_}
+use mathlib.Core.Bool.{cond}
+use mathlib.Core.Logic.{by-cases}
+use mathlib.Core.List.{List}
+use lib.ListN.{length, getD, take, replicate, length-replicate}
+use lib.Dec.{eqb}
+use lib.Seq.{take-all, getD-set-same, getD-set-other}
+use borrow.Author.Tests.{eq-eqb, ne-eqb}
+use Rattle.diagram.specs.Table.{Table}
+use Rattle.diagram.specs.Score.{rewarded}
+use Rattle.reading.specs.Roots.{rootAt}
+use Rattle.reading.proofs.Rooting.{rewarded-next, rewarded-part}
+use Rattle.scoring.specs.declared.roots.Roots.{Roots}
+use Rattle.scoring.specs.Value.{place, gap, rootedSum}
+use Rattle.scoring.specs.Passes.{RootsHeld}
+use Rattle.sweep.specs.Down.{dot, added, rootWeights, rootWeightsOf, rootWeight, Rooted}
+use Rattle.sweep.proofs.Transposing.{added-length, dot-added, dot-zeros, dot-term}
+
+pub root-weights-length : (t : Table) (i : ℕ) (ws : List ℕ) → length (rootWeights t i ws) ≡ length ws
+unfolding rootWeights
+root-weights-length t zero ws = refl
+root-weights-length t (suc i) ws = added-length (rootWeights t i ws) _ _ ∙ root-weights-length t i ws
+
+-- ---------------------------------------------------------------------------
+-- With a value for each node
+
+module _ (t : Table) (rooted : Rooted t) (v : ℕ → ℕ) where
+  root-weights-dot : (ws : List ℕ) → length (t .records) + 2 ≤ length ws → (i : ℕ) → i ≤ length (t .roots) → dot (rootWeights t i ws) v (length (t .records) + 2) ≡ dot ws v (length (t .records) + 2) + rewarded (λ m. gap t 0 (place t m) * v m) (take i (t .roots))
+  unfolding rootWeights rewarded
+  root-weights-dot ws long zero h = omega arith
+  root-weights-dot ws long (suc i) h =
+      let n = length (t .records) in
+      let node = rootAt (t .roots) i .node in
+      let within = rooted i (omega arith) in
+      let more = dot-added (rootWeights t i ws) v node (rootAt (t .roots) i .reward * gap t 0 (place t node)) (n + 2) (within .1) (omega (arith, within .1, root-weights-length t i ws)) in
+      omega (arith, more, root-weights-dot ws long i (omega arith), rewarded-next (λ m. gap t 0 (place t m) * v m) (t .roots) i (omega arith))
+
+  part-dot : length (t .records) ≤ 254 → (i : ℕ) → i ≤ length (t .roots) → dot (rootWeights t i (replicate 256 0)) v (length (t .records) + 2) ≡ rewarded (λ m. gap t 0 (place t m) * v m) (take i (t .roots))
+  part-dot few i h =
+      let long = length-replicate {A = ℕ} 256 0 in
+      omega (arith, root-weights-dot (replicate 256 0) (omega arith) i h, dot-zeros 256 v (length (t .records) + 2) (omega arith))
+
+  -- from zeros, the weights that all roots bring come to the sum over the roots
+  pub all-dot : length (t .records) ≤ 254 → dot (rootWeights t (length (t .roots)) (replicate 256 0)) v (length (t .records) + 2) ≡ rootedSum t v
+  unfolding rootedSum
+  all-dot few = part-dot few (length (t .roots)) (le-refl _) ∙ ap (rewarded _) (take-all (length (t .roots)) (t .roots) (le-refl _))
+
+  -- a weight is at most that sum, where no value is 0
+  pub root-weights-fit : length (t .records) ≤ 254 → ((m : ℕ) → 1 ≤ v m) → (i : ℕ) → i ≤ length (t .roots) → (m : ℕ) → m < length (t .records) + 2 → getD (rootWeights t i (replicate 256 0)) m 0 ≤ rootedSum t v
+  unfolding rootedSum
+  root-weights-fit few positive i h m l =
+      let ws = rootWeights t i (replicate 256 0) in
+      omega (arith, dot-term ws v m (length (t .records) + 2) l, part-dot few i h, rewarded-part (λ m. gap t 0 (place t m) * v m) (t .roots) i, mul-le-mul-left (getD ws m 0) (positive m))
+
+-- ---------------------------------------------------------------------------
+-- Cell by cell
+
+-- a cell after an addition
+pub added-cell : (ws : List ℕ) (i x c : ℕ) → i < length ws → getD (added ws i x) c 0 ≡ getD ws c 0 + cond (eqb i c) x 0
+unfolding added
+added-cell ws i x c h =
+    by-cases (ℕ-discrete i c)
+    (λ e. rw (eq-eqb i c e, ← e) (getD-set-same ws i (getD ws i 0 + x) 0 h))
+    (λ ne. rw (ne-eqb i c ne, getD-set-other ws i c (getD ws i 0 + x) 0 (omega arith)) (omega arith))
+
+pub root-weights-cell : (t : Table) → Rooted t → (ws : List ℕ) → length (t .records) + 2 ≤ length ws → (m i : ℕ) → i ≤ length (t .roots) → getD (rootWeights t i ws) m 0 ≡ getD ws m 0 + rootWeight t m i
+unfolding rootWeights rootWeight
+root-weights-cell t rooted ws long m zero h = omega arith
+root-weights-cell t rooted ws long m (suc i) h =
+    let within = rooted i (omega arith) in
+    omega (arith, added-cell (rootWeights t i ws) (rootAt (t .roots) i .node) (rootAt (t .roots) i .reward * gap t 0 (place t (rootAt (t .roots) i .node))) m (omega (arith, within .1, root-weights-length t i ws)), root-weights-cell t rooted ws long m i (omega arith))
+
+-- ---------------------------------------------------------------------------
+-- From arrays
+
+pub root-weights-of-next : (rs : Roots) (ws : List ℕ) (i : ℕ) → rootWeightsOf rs (i + 1) ws ≡ added (rootWeightsOf rs i ws) (getD (rs .nodes) (i + 2) 0) (getD (rs .weights) (i + 2) 0)
+unfolding rootWeightsOf
+root-weights-of-next rs ws i = rw (add-one i) refl
+
+-- the sum that root i makes at its node
+pub root-weight-fits : (rs : Roots) (ws : List ℕ) (i : ℕ) → let node = getD (rs .nodes) (i + 2) 0 in node < length (rootWeightsOf rs i ws) → getD (rootWeightsOf rs (suc i) ws) node 0 ≤ 2 ^ 56 → getD (rootWeightsOf rs i ws) node 0 + getD (rs .weights) (i + 2) 0 ≤ 2 ^ 56
+unfolding rootWeightsOf added
+root-weight-fits rs ws i l h = rw (getD-set-same (rootWeightsOf rs i ws) (getD (rs .nodes) (i + 2) 0) _ 0 l) at h
+
+module _ {t : Table} {rs : Roots} (e : RootsHeld t rs) where
+  -- the roots are records' nodes
+  pub held-rooted : Rooted t
+  held-rooted i h =
+      let less : i < rs .count = omega (arith, e .all) in
+      let within = e .held .within i less in
+      (omega (arith, e .held .node i less, within .0), omega (arith, e .held .node i less, within .1))
+
+  -- the arrays bring what the table's roots do
+  pub root-weights-of : (ws : List ℕ) (i : ℕ) → i ≤ rs .count → rootWeightsOf rs i ws ≡ rootWeights t i ws
+  unfolding rootWeightsOf rootWeights
+  root-weights-of ws zero h = refl
+  root-weights-of ws (suc i) h =
+      rw (root-weights-of ws i (omega arith), e .held .node i (omega arith), e .held .weight i (omega arith)) refl
