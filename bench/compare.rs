@@ -85,7 +85,7 @@ fn with<A, B: Clone>(held: &[B], service: impl FnOnce(&mut [B]) -> A) -> (A, Vec
     (service(&mut buffer), buffer)
 }
 
-/// Compares the five services on so many requests; the plain search in its three forms.
+/// Compares the five services on so many requests; the plain search in its four forms.
 pub fn compare(seed: u64, requests: u64) -> Counts {
     let mut r = Random::new(seed);
     let mut counts = Counts::new();

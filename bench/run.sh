@@ -1,6 +1,6 @@
 #!/bin/sh
 # Proves the crate export and makes its static library, builds the benchmark over it, and runs it.
-# bench/run.sh [--before COMMIT] [REQUESTS]: a commit's library is made too, and its search timed beside the others; the number is that of the requests
+# bench/run.sh [--before COMMIT] [REQUESTS]: a commit's library is made too, and timed beside the others; the number is that of the requests
 # to compare.
 set -eu
 cd "$(dirname "$0")/.."

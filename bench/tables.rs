@@ -1,4 +1,5 @@
-//! Made tables: small ones of every kind, damaged ones, and monotone networks with 20 choices. The seed decides everything.
+//! Made tables: small ones of every kind, ones at the limits, damaged ones, and monotone networks with 20 choices, any of them with root words. The seed
+//! decides everything.
 
 /// Numbers that look random, by splitmix64.
 pub struct Random(u64);

@@ -138,16 +138,16 @@ for n in (20, 21):
 reads("the 21st choice after chances", table([choice(i) if i % 2 else chance(i, 1, 1) for i in range(45)], last))
 wide = [choice(i) if i % 3 == 0 else chance(i, 1, 2) if i < 40 else chance(i, 1, 1) for i in range(60)]
 deep = [record(59 - k // 5, 1 if k < 5 else k // 5 * 5 - 3 + k % 5, 0) for k in range(254)]
-reads("the largest table", table(wide, deep))
-reads("the largest table and a word", table(wide, deep) + [record(0, 1, 0)])
+reads("60 variables and 254 records", table(wide, deep))
+reads("60 variables, 254 records and a word", table(wide, deep) + [record(0, 1, 0)])
 
-note("11 before 12, an empty word, too long, no whole words")
+note("12 of a word of zeros and of 1,264 bytes of zeros, 11 where there are no whole words")
 reads("one zero word", [0])
 reads("1264 bytes", [0] * 316)
 reads("5 bytes", bytes(5))
 
 note("12, kind, V, N and R of the heading")
-for w in (0x21002000, 0x01002000, 0xF1002000, 0x10002000, 0x1F402000, 0x11000000, 0x1107F800, 0x11002001, 0x110027FF):
+for w in (0x21002000, 0x01002000, 0xF1002000, 0x10002000, 0x1F402000, 0x11000000, 0x1107F800, 0x11002011, 0x110027FF):
     reads(f"heading {w:08x}", put(A, 0, w))
 
 note("13, a word missing, a word too many")
@@ -203,7 +203,7 @@ reads("a chance record may fall", table([chance(0, 1, 2)], [record(0, 0, 1)]))
 
 note("Two faults, the first check in order decides, wherever the second stands")
 reads("11 and 12", bytes_of([0x21002000])[:3])
-reads("12 and 13", put(A, 0, 0x11002001)[:-1])
+reads("12 and 13", put(A, 0, 0x11002011)[:-1])
 reads("13 and 14", put(A, 1, 0)[:-1])
 many = [choice(i) for i in range(21)] + [chance(i, 1, 1000) for i in range(21, 30)]
 reads("14 after 15 and 16", table(many + [word(3, 30, 1, 0)], last))
@@ -287,7 +287,7 @@ for i in (1, 2):
 
 note("Refusals of the score, after those of the file")
 for label, data in (
-    ("11", bytes_of(A)[:35]), ("12", put(A, 0, 0x11002001)), ("13", A[:-1]), ("14", put(A, 1, 0)), ("14 later", put(A, 4, 0)),
+    ("11", bytes_of(A)[:35]), ("12", put(A, 0, 0x11002011)), ("13", A[:-1]), ("14", put(A, 1, 0)), ("14 later", put(A, 4, 0)),
     ("15", table([choice(i) for i in range(21)], last)), ("16", table([chance(i, 1, 1000) for i in range(6)], last)),
     ("17", put(A, 5, 0)), ("17 later", put(A, 8, 0)), ("18", table(two, [record(0, 0, 1), record(0, 1, 0)])),
     ("18 later", table(two, [record(1, 1, 0), record(0, 0, 1)])),
@@ -343,7 +343,7 @@ for i in (0, 1, 2):
 
 note("Refusals of sweep and filter, after those of the file, with the buffer as it was")
 bad = (
-    ("11", bytes_of(A)[:35]), ("12", put(A, 0, 0x11002001)), ("13", A[:-1]), ("14", put(A, 1, 0)),
+    ("11", bytes_of(A)[:35]), ("12", put(A, 0, 0x11002011)), ("13", A[:-1]), ("14", put(A, 1, 0)),
     ("15", table([choice(i) for i in range(21)], last)), ("16", table([chance(i, 1, 1000) for i in range(6)], last)),
     ("17", put(A, 5, 0)), ("18", table(two, [record(0, 0, 1), record(0, 1, 0)])), ("18 later", table(two, [record(1, 1, 0), record(0, 0, 1)])),
 )
@@ -487,9 +487,9 @@ for kits in (0, 1, 2, 20, 21, 63):
     for percent in (0, 50, 51, 60, 61, 79, 80, 81, 100, 101, 2047):
         runs(f"kits {kits}, percent {percent}", [word(5, kits, 0, percent)] + A)
         runs(f"kits {kits}, percent {percent}, B", [word(5, kits, 0, percent)] + B)
-note("The longest inputs")
+note("Inputs of 1,260 bytes and more without root words")
 large = table([choice(i) if i % 6 == 0 else chance(i, 1, 1) for i in range(60)], deep)
-runs("1264 bytes, the largest table", job + large)
+runs("1264 bytes, 60 variables and 254 records", job + large)
 runs("1265 bytes", bytes_of(job + large) + b"\0")
 runs("1266 bytes", bytes_of(job + large) + b"\0\0")
 runs("1268 bytes", job + large + [0])
@@ -513,13 +513,13 @@ def on_opened_tables(chosen):
         case(f"opened, {label}", service.upper(), text, answer)
 
 
-def first_refusals(services, number_before={}):
-    """Of each service and number of a refusal the first two cases; some cases go by another number."""
+def first_refusals(services):
+    """Of each service and number of a refusal the first two cases."""
     found = {}
     for c in services:
         number = re.match(r" refused (\d+)", c[3])
         if number:
-            found.setdefault((c[1], number_before.get(c[0], number[1])), []).append(c)
+            found.setdefault((c[1], number[1]), []).append(c)
     return [c for of_one in found.values() for c in of_one[:2]]
 
 
@@ -532,8 +532,6 @@ def answered(services):
 answered_since = [f"word {i} with Q 0 and R 1" for i in (1, 3)] + [f"damaged {i}" for i in (41, 78, 107)]
 answered_since += [f"search, limits, kits {kits}, {percent}" for kits, percent in ((64, 0), (255, 50), (256, 50))]
 refused_before = [f"search, plan 00 and {size} places, kits 21, 100" for size in (0, 1)]
-# Their order stays as it was before paper 3, when R 1 of a heading was refused with 12.
-number_before = {"sweep, 12": "12", "filter, 12, 101": "12"}
 
 services = [c for c in cases if c[1] != "j"]
 printed = [text_of(bytes_of(t)) for t in (A, B)]
@@ -542,7 +540,7 @@ note("Requests of opened tables, of A and B")
 on_opened_tables(c for c in of_both if c[1] in "rsw")
 on_opened_tables([c for c in of_both if c[1] in "fp"][::7])
 note("Requests of opened tables, of each service every refusal")
-on_opened_tables(first_refusals(services, number_before))
+on_opened_tables(first_refusals(services))
 on_opened_tables(c for c in services if c[0] in refused_before)
 note("Requests of opened tables that are answered")
 on_opened_tables([c for c in answered(services) if c[0] not in answered_since][::20])
@@ -798,7 +796,7 @@ on_opened_tables(first_refusals(services))
 on_opened_tables(answered(services)[::10])
 
 before_roots = len(cases)
-note("Several customers (paper 3), each with a root word. Two of them on table A, rewards 3 and 1, counted by hand")
+note("Several roots (paper 3). Two of them on table A, rewards 3 and 1, counted by hand")
 
 
 def root(node, reward=1):
@@ -839,13 +837,13 @@ def choices_of(t):
 # 60 - 30 = 30. At 50 percent, 40 of 80, line 1 is forced; 48 is 60 percent, 60 is 75 percent.
 # Rewards 1 for node 5 and 3 for node 3: 0, 10, 12 + 36 = 48 and 16 + 36 = 52; drops 4 and 42.
 # Rewards 3 for node 4 and 1 for node 5: 30, 30 + 10 = 40, 48 + 12 = 60 and 48 + 16 = 64; drops 4 and 24.
-customers = {
+two_roots = {
     "3 for node 5 and 1 for node 3": (rooted(A, root(5, 3), root(3, 1)), (0, 30, 48, 60), (12, 30)),
     "1 for node 5 and 3 for node 3": (rooted(A, root(5, 1), root(3, 3)), (0, 10, 48, 52), (4, 42)),
     "3 for node 4 and 1 for node 5": (rooted(A, root(4, 3), root(5, 1)), (30, 40, 60, 64), (4, 24)),
 }
 percents = (0, 30, 37, 38, 50, 51, 60, 61, 75, 76, 80, 81, 100)
-for label, (t, by_hand, drops) in customers.items():
+for label, (t, by_hand, drops) in two_roots.items():
     reads(label, t)
     assert answers[-1].endswith(" table 4 4 2 80")
     for plan, x in zip(([2, 2], [1, 2], [2, 1], [1, 1]), by_hand):
@@ -902,13 +900,13 @@ for alike_words in (
     same = [every_service(label, rooted(A, *roots), [0, 0], (50, 0, 60, 75, 90, 100), (0, 1, 2)) for label, roots in alike_words.items()]
     assert all(x == same[0] for x in same)
 
-note("16 root words")
+note("16 root words, and 15")
 for label, roots in (
     ("one node, reward 64", [root(5, 64)] * 16), ("one node, reward 1", [root(5)] * 16), ("one node in the middle, reward 64", [root(3, 64)] * 16),
     ("every node four times", [root(2 + i % 4, 1 + i) for i in range(16)]), ("rewards 64 and 1", [root(2 + i // 4, 64 if i % 2 else 1) for i in range(16)]),
-    ("the last one another", [root(3, 5)] * 15 + [root(5, 64)]), ("15", [root(2 + i % 4, 64 - i) for i in range(15)]),
+    ("the last one another", [root(3, 5)] * 15 + [root(5, 64)]), ("falling rewards", [root(2 + i % 4, 64 - i) for i in range(15)]),
 ):
-    every_service(f"16 root words, {label}", rooted(A, *roots), [0, 0], (50, 0, 60, 80, 81), (0, 1, 2))
+    every_service(f"{len(roots)} root words, {label}", rooted(A, *roots), [0, 0], (50, 0, 60, 80, 81), (0, 1, 2))
 pairs_of_nodes = [record(7, 1, 0), record(7, 1, 1)]
 for p in range(6, -1, -1):
     # of two nodes at each position the first implies the second
@@ -989,7 +987,7 @@ for label, scales, totals in (
     ("2^56", [256] * 7, (1, 2, 3, 64, 65, 128, 255, 256, 257, 258, 512, 513, 768, 1000, 1023, 1024)),
     ("2^55", [256] * 6 + [128], (1, 2, 3, 4, 512, 513, 514, 1024)),
     ("2^50", [32] * 10, (63, 64, 65, 1024)), ("2^48", [256] * 6, (128, 255, 256, 257, 1024)), ("2^47", [256] * 5 + [128], (511, 512, 513, 1024)),
-    ("2^46", [512] * 5 + [2], (1023, 1024)), ("2^46 and 3", [512] * 5 + [3], (682, 683, 1024)), ("10^16", [10] * 16, (7, 8, 1024)),
+    ("2^46", [512] * 5 + [2], (1023, 1024)), ("3 times 2^45", [512] * 5 + [3], (682, 683, 1024)), ("10^16", [10] * 16, (7, 8, 1024)),
     ("10^15", [1000] * 5, (64, 72, 73, 1024)), ("2^56 less 256", [673, 771, 964, 832, 595, 3], (96, 97, 98)),
     ("2^56 and 19435", [791, 721, 31, 43, 53, 97, 179], (102, 103, 104)), ("1", [1], (1, 2, 64, 1024)), ("7", [7], (1, 64, 1024)),
 ):
@@ -1053,7 +1051,7 @@ for label, t in (
     filters(f"{label}, filter", t, [3], (101,), 2)
     searches(f"{label}, search", t, [0, 0], [(10021, 101)], 0)
     runs(f"{label}, job", [job_of(10021, 101)] + t)
-pair = customers["3 for node 5 and 1 for node 3"][0]
+pair = two_roots["3 for node 5 and 1 for node 3"][0]
 for plan, size in (([], 2), ([0], 2), ([0, 0, 0], 2), ([0, 3, 0], 1), ([3, 0], 2), ([0, 3], 2), ([3, 3], 1), ([0, 0], 0), ([0, 0], 1), ([0, 0], 3), ([0, 0], 2)):
     label = f"root words, plan {marks_of(plan)} and {size} places"
     scores(f"{label}, score", pair, plan)

@@ -3,7 +3,7 @@
 // passes over the records and by branch and bound, it finds by trying every settling of the
 // variables and every full plan.
 //
-// Every function is proved safe and ending; none has a contract. A table that passes check 17 and
+// Every function is proved safe and ending; none has a contract. A table that passes check 27 and
 // has more than 16 variables is answered by 99, which is no number of the planner.
 mod checks;
 mod numbers;

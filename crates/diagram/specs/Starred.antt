@@ -1,6 +1,6 @@
 -- Document 01, "Tried at the counter": the twelve starred cases, five of which have another answer since paper 1 of document 02, what else that paper says
 -- of certain events, of the printed job and of the filter at every percentage, lines of several kits (paper 2), and several roots (paper 3).
-use Prim.Native.Nat.{ℕ, _+_, _*_, _/_, _%_}
+use Prim.Native.Nat.{ℕ, zero, suc, _+_, _*_, _/_, _%_}
 use mathlib.Core.Path.{_≡_, refl}
 use mathlib.Core.List.{List, [], _∷_, _++_, map}
 use lib.ListN.{length, take, drop, replicate}
@@ -74,11 +74,14 @@ rootedA count words = 0x11 ∷ 0x00 ∷ 0x20 ∷ count ∷ drop 4 tableA ++ word
 unfoldable pub twoRoots : List ℕ
 twoRoots = rootedA 2 (rootWord 3 5 ++ rootWord 1 3)
 
+-- So many times the same bytes
+unfoldable pub repeated : ℕ → List ℕ → List ℕ
+repeated zero bytes = []
+repeated (suc n) bytes = bytes ++ repeated n bytes
+
 -- 15 root words of reward 64 for node 5, then one of reward 1 for node 3
 unfoldable pub sixteen : List ℕ
-sixteen =
-    rootWord 64 5 ++ rootWord 64 5 ++ rootWord 64 5 ++ rootWord 64 5 ++ rootWord 64 5 ++ rootWord 64 5 ++ rootWord 64 5 ++ rootWord 64 5
-    ++ rootWord 64 5 ++ rootWord 64 5 ++ rootWord 64 5 ++ rootWord 64 5 ++ rootWord 64 5 ++ rootWord 64 5 ++ rootWord 64 5 ++ rootWord 1 3
+sixteen = repeated 15 (rootWord 64 5) ++ rootWord 1 3
 
 -- One line and seven events of 0/256, so that the product of b is 2^56, with one record, of the line, and some root words, of which the heading says that they
 -- are so many
@@ -106,6 +109,12 @@ falls = 0x40 ∷ 0x00 ∷ 0x00 ∷ 0x01 ∷ []
 -- One that is its own child, node 2
 unfoldable pub ownChild : List ℕ
 ownChild = 0x40 ∷ 0x00 ∷ 0x10 ∷ 0x00 ∷ []
+
+-- One line and events whose product of b is 2^52, the last of them 0/16, and 16 root words, of reward 1 but for the last
+unfoldable pub narrower : (last : ℕ) → List ℕ
+narrower last =
+    let table = widest rises 16 (repeated 15 (rootWord 1 2) ++ rootWord last 2) in
+    take 34 table ++ 0x00 ∷ 0x10 ∷ drop 36 table
 
 -- A request to a service, with a buffer of the plan's size; `printed` is the program on its input
 pub data Request : Type 0 where
@@ -308,9 +317,12 @@ paper3 =
       answers = answered (12 ∷ 0 ∷ 0 ∷ []) ∷ answered (4 ∷ 4 ∷ 2 ∷ 1280 ∷ []) ∷ answered (1024 ∷ 0 ∷ 384 ∷ []) ∷ [];
     }
     -- 16 root words, of which every one counts: 961 times 20 are 19,220
+    ∷ record { requests = read (rootedA 16 sixteen) ∷ []; answers = answered (4 ∷ 4 ∷ 2 ∷ 19220 ∷ []) ∷ [] }
+    ∷ record { requests = swept (rootedA 16 sixteen) allOpen ∷ []; answers = answered (15372 ∷ 3840 ∷ 5772 ∷ []) ∷ [] }
+    -- printed too: line 1 scores 11,532, line 0 alone 9,600, which is less than half, so that T L is no visit
     ∷ record {
-      requests = read (rootedA 16 sixteen) ∷ swept (rootedA 16 sixteen) allOpen ∷ [];
-      answers = answered (4 ∷ 4 ∷ 2 ∷ 19220 ∷ []) ∷ answered (15372 ∷ 3840 ∷ 5772 ∷ []) ∷ [];
+      requests = printed (0x50 ∷ 0x40 ∷ 0x00 ∷ 0x32 ∷ rootedA 16 sixteen) ∷ [];
+      answers = answered (lineOneOf (49 ∷ 57 ∷ 50 ∷ 50 ∷ 48 ∷ []) (49 ∷ 49 ∷ 53 ∷ 51 ∷ 50 ∷ []) 5) ∷ [];
     }
     -- "the program reads 1,329": with the job word, 1,324 bytes of table and one more
     ∷ record {
@@ -332,10 +344,17 @@ paper3 =
       requests = read (rootedA 1 (rootWord 1 0)) ∷ read (rootedA 1 (rootWord 1 1)) ∷ read (rootedA 1 (rootWord 1 6)) ∷ read (rootedA 3 (rootWord 1 5 ++ rootWord 0 5 ++ rootWord 1 6)) ∷ [];
       answers = refused 26 9 ∷ refused 26 9 ∷ refused 26 9 ∷ refused 26 10 ∷ [];
     }
+    -- the last of 16
+    ∷ record { requests = read (rootedA 16 (take 60 sixteen ++ rootWord 0 5)) ∷ []; answers = refused 26 24 ∷ [] }
     -- "27 means B times the total reward is above 2^56 (place 0)"
     ∷ record {
       requests = read (widest rises 1 (rootWord 1 2)) ∷ read (widest rises 1 (rootWord 2 2)) ∷ read (widest rises 2 (rootWord 1 2 ++ rootWord 1 2)) ∷ [];
       answers = answered (8 ∷ 1 ∷ 1 ∷ 72057594037927936 ∷ []) ∷ refused 27 0 ∷ refused 27 0 ∷ [];
+    }
+    -- the total of 16
+    ∷ record {
+      requests = read (narrower 1) ∷ read (narrower 2) ∷ [];
+      answers = answered (8 ∷ 1 ∷ 1 ∷ 72057594037927936 ∷ []) ∷ refused 27 0 ∷ [];
     }
     -- "the two checked after 17 and before 18"
     ∷ record {
@@ -356,9 +375,9 @@ AllHold (c ∷ cs) = (map answerTo (c .requests) ≡ c .answers) × AllHold cs
 
 -- The cases of document 01, and of papers 1, 2 and 3 of document 02, hold: each is computed
 pub starredHold : AllHold (starred ++ paper1 ++ paper2 ++ paper3)
-unfolding AllHold starred paper1 paper2 paper3 lineOneOf lineOne bothLines tooManyKits refusedOne answerTo tableA certainA river0 river1 twoWays tableB rootWord rootedA twoRoots sixteen widest rises falls ownChild allOpen numbers wordAt sequence variableCount recordCount rootCount variableOf recordOf kitsOf rootOf rootsOr tableOf recordAt isChoice choiceCount scaleOf totalReward scale walk truth settlings weight sum total scoreFrom rewarded score assignments every implies completions openTaken openCount costOf cost isOpen leaves upperBound derivative derivatives passes noneOf passing forced forcedPlan countOf forcedCount takesFirst ranksBefore better firstRanked isCandidate select bestPlan beaten goesBack lowestOpen visit visited visitCount placeZero firstPlace jobFault lengthFault isHeading headingFault countFault isVariableWord variableFault choiceFault scaleFault positionOf isChild isRecordWord recordFault isRootWord rootFault rewardFault isMonotoneAt monotoneFault planLengthFault planMarkFault fullPlanFault percentFault budgetFault bufferFault jobChecks tableChecks scoreChecks sweepChecks filterChecks searchChecks checked written reading readOutcome scoreOutcome sweepOutcome sweepBuffer filtering filterOutcome filterBuffer searching searchOutcome searchBuffer digits decimal refusedWord choicesWord scaleWord kitsWord scoreWord visitsWord takeWord leftWord line markLines refusalText planText searchText jobOutcome jobKits programOutcome printout
+unfolding AllHold starred paper1 paper2 paper3 lineOneOf lineOne bothLines tooManyKits refusedOne answerTo tableA certainA river0 river1 twoWays tableB rootWord rootedA twoRoots repeated sixteen widest narrower rises falls ownChild allOpen numbers wordAt sequence variableCount recordCount rootCount variableOf recordOf kitsOf rootOf rootsOr tableOf recordAt isChoice choiceCount scaleOf totalReward scale walk truth settlings weight sum total scoreFrom rewarded score assignments every implies completions openTaken openCount costOf cost isOpen leaves upperBound derivative derivatives passes noneOf passing forced forcedPlan countOf forcedCount takesFirst ranksBefore better firstRanked isCandidate select bestPlan beaten goesBack lowestOpen visit visited visitCount placeZero firstPlace jobFault lengthFault isHeading headingFault countFault isVariableWord variableFault choiceFault scaleFault positionOf isChild isRecordWord recordFault isRootWord rootFault rewardFault isMonotoneAt monotoneFault planLengthFault planMarkFault fullPlanFault percentFault budgetFault bufferFault jobChecks tableChecks scoreChecks sweepChecks filterChecks searchChecks checked written reading readOutcome scoreOutcome sweepOutcome sweepBuffer filtering filterOutcome filterBuffer searching searchOutcome searchBuffer digits decimal refusedWord choicesWord scaleWord kitsWord scoreWord visitsWord takeWord leftWord line markLines refusalText planText searchText jobOutcome jobKits programOutcome printout
 starredHold =
-    (refl, (refl, (refl, (refl, (refl, (refl, (refl, (refl, (refl, (refl, (refl, (refl, (refl, (refl, (refl, (refl, (refl, (refl, (refl, (refl, (refl, (refl, (refl, (refl, (refl, (refl, (refl, (refl, (refl, (refl, (refl, (refl, (refl, (refl, (refl, (refl, (refl, (refl, (refl, (refl, (refl, (refl, tt))))))))))))))))))))))))))))))))))))))))))
+    (refl, (refl, (refl, (refl, (refl, (refl, (refl, (refl, (refl, (refl, (refl, (refl, (refl, (refl, (refl, (refl, (refl, (refl, (refl, (refl, (refl, (refl, (refl, (refl, (refl, (refl, (refl, (refl, (refl, (refl, (refl, (refl, (refl, (refl, (refl, (refl, (refl, (refl, (refl, (refl, (refl, (refl, (refl, (refl, (refl, (refl, tt))))))))))))))))))))))))))))))))))))))))))))))
 
 -- What the filter answers for table A at 0, 1 .. 100 percent. Paper 1: "50 forces nothing; 60 forces line 1 only; 80 forces both; 31 first comes at 81"
 unfoldable pub everyPercentage : List (Outcome (List ℕ))

@@ -94,7 +94,7 @@ choiceCount [] = 0
 choiceCount (choice ∷ vs) = suc (choiceCount vs)
 choiceCount (chance a b ∷ vs) = choiceCount vs
 
--- "B is the product of all b (1 if there are none)"
+-- "the product of all b (1 if there are none)", which is B but for the rewards
 unfoldable pub scaleOf : List Variable → ℕ
 scaleOf [] = 1
 scaleOf (choice ∷ vs) = scaleOf vs

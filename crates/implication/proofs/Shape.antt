@@ -1,4 +1,4 @@
--- What the checks 12, 13 and 17 say of a file's heading and records, and what a file's words are past its end.
+-- What the checks 12 and 17 say of a file's heading and records.
 -- Assumes nothing.
 use Prim.Native.Nat.{ℕ, _+_, _-_, _≤_, _<_}
 use native.Mathlib.Decide.{decLt}

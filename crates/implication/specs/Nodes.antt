@@ -9,7 +9,7 @@ use lib.ListN.{length, getD, take}
 use lib.Dec.{eqb, leb}
 use Rattle.diagram.specs.Table.{Record, sequence, recordAt, tableOf, variableCount}
 use Rattle.diagram.specs.Score.{implies}
-use Rattle.diagram.specs.Checks.{headingFault, countFault, recordFault, positionOf, isMonotoneAt}
+use Rattle.diagram.specs.Checks.{headingFault, recordFault, positionOf, isMonotoneAt}
 use Rattle.diagram.proofs.Truth.{Formed}
 
 -- One part of every record, at its node's number, with `end` for the two ends. There are 256 nodes at most.
@@ -34,13 +34,12 @@ endOf ps = getD ps 0 0
 pub record Placed (v : ℕ) (rs : List Record) (ps : List ℕ) (k : ℕ) : Type 0 where
   pub at : (n : ℕ) → n < k + 2 → getD ps n 0 ≡ positionOf v rs n
 
--- A file that the checks up to 17 let through, as far as its records go
+-- A file whose heading and records are right, as the checks 12 and 17 find them
 pub record Shaped (s : List ℕ) : Type 0 where
   pub heading : headingFault s ≡ none
-  pub count : countFault s ≡ none
   pub records : recordFault s ≡ none
 
--- The arrays hold the records of a file that the checks up to 17 let through
+-- The arrays hold the records of such a file
 pub record Held (s ps hs ls : List ℕ) : Type 0 where
   pub shaped : Shaped s
   pub positions : ps ≡ column (variableCount s) (λ (r : Record). r .position) (tableOf s .records)

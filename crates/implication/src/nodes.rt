@@ -13,7 +13,7 @@ ghost use lib.ListN.{length, getD, set};
 ghost use Rattle.diagram.specs.Table.{Record, tableOf, variableCount};
 ghost use Rattle.implication.specs.Nodes.{column, Filled, Shaped};
 
-// Copies the records of a file that the checks 11 to 17 let through, and marks the ends' position. The lengths are the
+// Copies the records of a file that the checks 12 and 17 let through, and marks the ends' position. The lengths are the
 // arrays' own.
 pub fn decode(file: &[u8], positions: &mut [u8; 256], high: &mut [u8; 256], low: &mut [u8; 256])
     requires { ⌜ Shaped (now file) ⌝ }

@@ -1,6 +1,7 @@
--- Path weights: what comes to a node is what its parents hand on; a node's weight depends on the marks before its position alone; an open line's drop
--- is the sum, over its records, of the node's weight times what its value falls by.
--- Assumes of the table that its records are formed as check 17 wants them, that its shares are shares, and that it has at most 254 records.
+-- Path weights: what comes to a node is what its parents hand on and what the roots bring; a node's weight depends on the marks before its position
+-- alone; an open line's drop is the sum, over its records, of the node's weight times what its value falls by.
+-- Assumes of the table that its records are formed as check 17 wants them, that its shares are shares, that its roots are records' nodes (`Rooted`), and
+-- that it has at most 254 records.
 use Prim.Native.Nat.{ℕ, zero, suc, _+_, _*_, _≤_, _<_, _^_}
 use native.Mathlib.Nat.{le-refl, le-of-eq, add-zero, eq-or-lt-of-le}
 use native.Mathlib.Decide.{decLt}

@@ -1,6 +1,6 @@
 // The walk of a visit over one layer: from the line before to an open line, and over that line's own nodes.
 ghost use mathlib.Core.Path.{_≡_};
-ghost use Prim.Native.Nat.{ℕ, suc, _+_, _-_, _*_, _≤_, _<_, _^_};
+ghost use Prim.Native.Nat.{ℕ, suc, _+_, _-_, _≤_, _<_, _^_};
 ghost use lib.ListN.{length, getD};
 ghost use Rattle.layers.specs.Layers.{layersOf, Sized, flowSum, put, passNodes, PassFits, ownNodes, OwnFits, dropSum, leaveNodes, layerEntered, layerDrop, Enterable};
 

@@ -8,7 +8,7 @@ use scoring::high_weight;
 use scoring::mark_at;
 use scoring::value_of;
 ghost use mathlib.Core.Path.{_≡_};
-ghost use Prim.Native.Nat.{ℕ, _+_, _-_, _*_, _≤_, _<_, _^_};
+ghost use Prim.Native.Nat.{ℕ, _+_, _*_, _≤_, _<_, _^_};
 ghost use lib.ListN.{length, getD, set, replicate};
 ghost use Rattle.diagram.specs.Table.{sequence};
 ghost use Rattle.scoring.specs.Passes.{over, highInForce, markAtNode};

@@ -43,7 +43,7 @@ pub passed-records : {s : List ℕ} → Passed s → (1 ≤ length (tableOf s .r
 passed-records {s} h = rw records-length (heading-records s (h .heading))
 
 pub passed-shaped : {s : List ℕ} → Passed s → Shaped s
-passed-shaped h = record { heading = h .heading; count = h .count; records = h .records }
+passed-shaped h = record { heading = h .heading; records = h .records }
 
 pub passed-formed : {s : List ℕ} → Passed s → Formed (length (tableOf s .variables)) (tableOf s .records)
 passed-formed {s} h = rw variables-length (shaped-formed s (passed-shaped h))

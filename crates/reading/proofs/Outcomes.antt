@@ -114,7 +114,7 @@ module _ (s : List ℕ) where
     past-18 q =
         sym e ∙ checked-answered s (take 9 tableChecks) reading a _ e ∙ sym (check-18 ∙ goes-on _ [] s q ∙ checked-end _ s)
 
-    -- the checks 12, 13 and 17 of a file that they let through
+    -- the checks 12 and 17 of a file that they let through
     pub shape-shaped : Shaped s
     unfolding shapeOutcome tableChecks
     shape-shaped =
@@ -122,7 +122,7 @@ module _ (s : List ℕ) where
         let c13 = first-passed _ _ s a (c12 .1) in
         let c16 = first-passed _ _ s a (first-passed _ _ s a (first-passed _ _ s a (c13 .1) .1) .1) in
         let c17 = first-passed _ _ s a (c16 .1) in
-        record { heading = c12 .0; count = c13 .0; records = c17 .0 }
+        record { heading = c12 .0; records = c17 .0 }
 
 -- ---------------------------------------------------------------------------
 -- The arrays that are lent to reading

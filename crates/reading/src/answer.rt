@@ -15,7 +15,7 @@ pub enum ReadAnswer {
     Refused(Refusal),
 }
 
-// A number within its limit, or the word where it first is above.
+// A number within its limit, or the place of the refusal where it is above.
 pub enum Bounded {
     Within(u64),
     Above(usize),

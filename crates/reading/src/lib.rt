@@ -27,7 +27,7 @@ ghost use Rattle.diagram.specs.Services.{readOutcome};
 ghost use Rattle.reading.specs.Answer.{outcomeOf, shapeOutcome};
 ghost use Rattle.reading.specs.Nodes.{columnOr};
 
-// Reads a table: V, N, the number of choices and B, or the first reason in document 01's order for turning the file away.
+// Reads a table: V, N, the number of choices and B, or the first reason in the papers' order for turning the file away.
 pub fn read(file: &[u8]) -> ReadAnswer
     ensures { λ r. ⌜ outcomeOf r ≡ readOutcome (now (file .entry)) ⌝ }
 {

@@ -13,7 +13,7 @@ use implication::record_count;
 use implication::variable_count;
 ghost use mathlib.Core.Path.{_≡_};
 ghost use mathlib.Core.Option.{none};
-ghost use Prim.Native.Nat.{_+_, _<_, _≤_};
+ghost use Prim.Native.Nat.{_<_, _≤_};
 ghost use lib.ListN.{length};
 ghost use Rattle.diagram.specs.Table.{tableOf, totalReward, scaleOf};
 ghost use Rattle.diagram.specs.Table as table;

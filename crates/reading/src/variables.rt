@@ -10,7 +10,7 @@ use implication::Fault;
 use implication::is_choice;
 use implication::variable_count;
 ghost use mathlib.Core.Path.{_≡_};
-ghost use Prim.Native.Nat.{_<_, _*_, _+_, _^_};
+ghost use Prim.Native.Nat.{_*_, _^_};
 ghost use lib.Dec.{ltb};
 ghost use Rattle.diagram.specs.Table.{tableOf, choiceCount, scaleOf};
 ghost use Rattle.diagram.specs.Checks.{isVariableWord, variableFault, choiceFault, scaleFault};

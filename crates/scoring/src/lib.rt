@@ -1,4 +1,5 @@
-// The score of a full plan: the weighted count of the settlings that lead to true, by one pass up the records.
+// The score of a full plan: the weighted count of the settlings that lead to true, summed over the roots with their rewards, by one
+// pass up the records.
 mod answer;
 mod arcs;
 mod bound;

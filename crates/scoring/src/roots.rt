@@ -6,7 +6,7 @@ use reading::position_of;
 use reading::root_at;
 use reading::root_count;
 ghost use mathlib.Core.Path.{_≡_};
-ghost use Prim.Native.Nat.{_+_, _*_, _/_, _≤_, _<_, _^_};
+ghost use Prim.Native.Nat.{_/_, _≤_, _<_, _^_};
 ghost use lib.ListN.{getD};
 ghost use Rattle.diagram.specs.Table.{Record, tableOf, variableCount};
 ghost use Rattle.diagram.proofs.Checked.{Passed};

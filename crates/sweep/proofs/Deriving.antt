@@ -1,6 +1,6 @@
 -- The drops from the two passes: under the weights that the pass down gives the nodes, the losses at an open choice's records come to its drop, and at
 -- every other position to 0; all sums fit.
--- Assumes of the arrays that they hold the table and the plan (`Marked`), and of the table what check 18 finds (`Monotone`).
+-- Assumes of the arrays that they hold the table and the plan (`Marked`) and the roots (`RootsHeld`), and of the table what check 18 finds (`Monotone`).
 use Prim.Native.Nat.{ℕ, zero, suc, _+_, _-_, _*_, _≤_, _<_, _^_}
 use native.Mathlib.Nat.{le-refl, le-of-eq, add-zero, zero-add, add-sub-of-le}
 use native.Mathlib.Decide.{decLt}

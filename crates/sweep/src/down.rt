@@ -3,7 +3,7 @@ use diagram::Node;
 use reading::child_of;
 use scoring::Roots;
 ghost use mathlib.Core.Path.{_≡_};
-ghost use Prim.Native.Nat.{ℕ, _+_, _*_, _≤_, _<_, _^_};
+ghost use Prim.Native.Nat.{ℕ, _+_, _≤_, _<_, _^_};
 ghost use lib.ListN.{length, getD};
 ghost use Rattle.sweep.specs.Down as down;
 ghost use Rattle.sweep.specs.Down.{added, rootWeightsOf, RootFits, handOn, Budget};

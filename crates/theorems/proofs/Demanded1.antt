@@ -17,7 +17,7 @@ use Rattle.diagram.specs.Checks.{jobFault, jobChecks, scoreChecks, sweepChecks,
 use Rattle.diagram.specs.Services.{Outcome, refused, answered, written, reading, Searching, scoreOutcome, sweepOutcome, sweepBuffer, filtering, filterOutcome, filterBuffer, searching, searchOutcome, searchBuffer}
 use Rattle.diagram.specs.Printout.{refusalText, planText, searchText, jobOutcome, jobKits, programOutcome, printout}
 use Rattle.diagram.specs.declared.refusal.Refusal.{Refusal}
-use Rattle.diagram.proofs.Checked.{checked-passes, checked-stops, checked-end, read-reading, read-passed}
+use Rattle.diagram.proofs.Checked.{checked-passes, checked-stops, checked-end, answered-not-refused, read-reading, read-passed}
 use Rattle.reading.specs.declared.answer.ReadAnswer.the-variants as read-answer
 use Rattle.reading.specs.Answer as reads
 use Rattle.scoring.specs.declared.answer.ScoreAnswer.the-variants as score-answer
@@ -28,7 +28,7 @@ use Rattle.sweep.specs.Answer.{sweepOf, filterOf}
 use Rattle.search.specs.declared.answer.SearchAnswer.the-variants as search-answer
 use Rattle.search.specs.Answer.{searchOf}
 use Rattle.theorems.specs.Reasons.{Request, Reason, noWayPasses, noCandidate, numberOf, Wrong, fileReasons, scoreReasons, sweepReasons, filterReasons, searchReasons, programReasons, at-first, no-row, passes-row}
-use Rattle.theorems.specs.Demand1.{Judged, refuses, serves, Services, jobOf, Demand1}
+use Rattle.theorems.specs.Demand1.{Judged, refuses, serves, Services, jobOf, Finds, Demand1}
 use Rattle.theorems.proofs.Answers.{read-refused, table-is, score-refused, score-is, sweep-refused, bound-is, filter-refused, forced-is, search-refused, found-is}
 use Rattle.theorems.proofs.Completing.{no-way-passes}
 use Rattle.theorems.proofs.Deciding.{Decided, stops, answers, end, row, one-more, decided-as, decide, at-once, file-rows, rendered-append, read-decided}
@@ -103,6 +103,15 @@ program-decided input = go (jobFault (take 1329 input)) refl
         let f = row-10 (jobOf input) (take 1329 input) refl .finds i e in
         stops (at-first (f .0) (f .1)) (checked-stops _ _ _ _ i e)
 
+-- what the program answers, the search finds
+program-finds : (input : List ℕ) (found : Searching) → programOutcome (take 1329 input) ≡ answered found → Finds (jobOf input) found
+unfolding jobOf programOutcome jobChecks jobKits jobOutcome
+program-finds input found e = go (jobFault (take 1329 input)) refl
+  where
+    go : (o : Option ℕ) → jobFault (take 1329 input) ≡ o → Finds (jobOf input) found
+    go none q = sym (checked-passes _ _ _ _ q ∙ checked-end _ _) ∙ e
+    go (some i) q = absurd (answered-not-refused found _ i (sym e ∙ checked-stops _ _ _ _ i q))
+
 -- ---------------------------------------------------------------------------
 -- From an outcome to an answer
 
@@ -117,10 +126,10 @@ unfolding written
 kept part held e = rw (← e) refl
 
 -- a text that is printed of a decided outcome
-judge-text : {q : Request} {rs : List Reason} {o : Outcome Searching} (t : Table) (text : List ℕ) → text ≡ searchText t o → Decided q rs o → Judged q rs (λ r. refusalText (r .number) (r .place)) (λ a. (found : Searching) × (a ≡ planText t found)) text
+judge-text : {q : Request} {rs : List Reason} {o : Outcome Searching} (t : Table) (text : List ℕ) → ((found : Searching) → o ≡ answered found → Finds q found) → text ≡ searchText t o → Decided q rs o → Judged q rs (λ r. refusalText (r .number) (r .place)) (λ a. (found : Searching) × Finds q found × (a ≡ planText t found)) text
 unfolding searchText
-judge-text t text e (stops {n} {i} s f) = refuses n i s (e ∙ rw f refl)
-judge-text t text e (answers a l f) = serves l (a, e ∙ rw f refl)
+judge-text t text finds e (stops {n} {i} s f) = refuses n i s (e ∙ rw f refl)
+judge-text t text finds e (answers a l f) = serves l (a, finds a f, e ∙ rw f refl)
 
 -- the five services
 services : (q : Request) → Services q
@@ -152,4 +161,4 @@ services q = (
 -- demand 1: the promises of the services and of the program are turned into what is demanded
 pub demand-1 : Demand1
 unfolding Demand1 printout jobOf
-demand-1 = (services, λ input text e. judge-text _ text e (program-decided input))
+demand-1 = (services, λ input text e. judge-text _ text (program-finds input) e (program-decided input))

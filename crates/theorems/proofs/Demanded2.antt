@@ -28,7 +28,6 @@ use Rattle.theorems.proofs.Deciding.{accepted-read}
 use Rattle.theorems.proofs.Completing.{completion-completes, completes-completion}
 use Rattle.sweep.proofs.Requesting.{search-answered}
 use Rattle.theorems.proofs.Demanded3.{legal-request}
-use Rattle.scoring.specs.declared.answer.ScoreAnswer.the-variants as scores
 use Rattle.scoring.proofs.Requests.{length-fits}
 use Rattle.search.specs.declared.answer.SearchAnswer.{SearchAnswer}
 use Rattle.search.specs.declared.answer.SearchAnswer.the-variants.{Found}

@@ -1,4 +1,4 @@
--- The demands of the briefing, proved.
+-- The demands of the briefing, and what is said of kits and roots, proved.
 pub mod Completing
 pub mod Answers
 pub mod Saying
@@ -9,4 +9,5 @@ pub mod Demanded2
 pub mod Demanded1
 pub mod Charged
 pub mod Alike
+pub mod Served
 pub mod Rooted

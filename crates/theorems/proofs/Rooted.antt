@@ -18,10 +18,11 @@ use Rattle.implication.proofs.Choosing.{variables-length}
 use Rattle.reading.proofs.Rooting.{roots-none, roots-words}
 use Rattle.reading.proofs.Accepted.{passed-shares}
 use Rattle.theorems.specs.Reasons.{tableLength, headingWord, wordCount, variableWord, choiceLimit, scaleLimit, recordWord, rootWord, rewardLimit, notMonotone, RootWord, Wrong, WholeTable, no-row, passes-row, fileReasons, fileAlone, Accepted}
-use Rattle.theorems.specs.Roots.{rootWordAt, RootsAreHeld, ScaleIsTheProduct, ScoreWithinScale, OneRoot, NamesLast, LastIsRoot, AnswerAlike, ReadByScores, Reordered, nothing, first-kept, exchanged, in-steps, OtherOrder, OrderIsFree, withRoots, TwiceIsAdded}
+use Rattle.theorems.specs.Roots.{rootWordAt, RootsAreHeld, ScaleIsTheProduct, ScoreWithinScale, SameNetwork, ServedAlike, OneRoot, NamesLast, LastIsRoot, Reordered, nothing, first-kept, exchanged, in-steps, rootWords, OtherOrder, OrderIsFree, AddsRewards, TwiceIsAdded, AnswerAlike, ReadByScores, withRoots, RootsAreAdded}
 use Rattle.theorems.proofs.Rows.{whole-table}
 use Rattle.theorems.proofs.Deciding.{accepted-read}
 use Rattle.theorems.proofs.Alike.{alike}
+use Rattle.theorems.proofs.Served.{served-alike}
 
 -- ---------------------------------------------------------------------------
 -- Lists
@@ -114,12 +115,6 @@ score-within-scale file plan h =
 -- ---------------------------------------------------------------------------
 -- From one file to another that differs in its root words alone
 
--- Two files with the same variable words and the same records
-record SameNetwork (file other : List ℕ) : Type 0 where
-  variables : variableCount other ≡ variableCount file
-  records : recordCount other ≡ recordCount file
-  words : (i : ℕ) → i < variableCount file + recordCount file → wordAt other (1 + i) ≡ wordAt file (1 + i)
-
 module _ {file other : List ℕ} (h : SameNetwork file other) where
   same-variables : tableOf other .variables ≡ tableOf file .variables
   unfolding tableOf
@@ -152,7 +147,7 @@ module _ {file other : List ℕ} (h : SameNetwork file other) where
   unfolding Wrong
   same-27 reward j wrong = (wrong .0, rw (same-variables, reward) at (wrong .1))
 
-  module _ (w : WholeTable file) (heading : kind (wordAt other 0) ≡ kind (wordAt file 0)) (few : rootCount other ≤ 16) (size : length other ≡ 4 * (1 + variableCount file + recordCount file + rootCount other)) (right : (r : ℕ) → r < rootCount other → RootWord (recordCount file) (rootWordAt other r)) where
+  module _ (w : WholeTable file) (few : rootCount other ≤ 16) (size : length other ≡ 4 * (1 + variableCount file + recordCount file + rootCount other)) (right : (r : ℕ) → r < rootCount other → RootWord (recordCount file) (rootWordAt other r)) where
     limits : (variableCount file ≤ 60) × (recordCount file ≤ 254)
     unfolding variableCount recordCount
     limits = (w .heading .variables .1, w .heading .records .1)
@@ -167,7 +162,7 @@ module _ {file other : List ℕ} (h : SameNetwork file other) where
     other-12 j wrong =
         wrong .1
         (record {
-          kind-is = heading ∙ w .heading .kind-is;
+          kind-is = h .heading ∙ w .heading .kind-is;
           variables = rw (h .variables) (w .heading .variables);
           records = rw (h .records) (w .heading .records);
           roots = few;
@@ -256,18 +251,17 @@ one-root file none = (
   no-27 file none,
 )
 
+-- the other way round
+turned : {file other : List ℕ} → SameNetwork file other → SameNetwork other file
+turned h =
+    record {
+      heading = sym (h .heading);
+      variables = sym (h .variables);
+      records = sym (h .records);
+      words = λ i l. sym (h .words i (omega (arith, l, h .variables, h .records)));
+    }
+
 module _ {file named : List ℕ} (h : NamesLast file named) where
-  network : SameNetwork file named
-  network = record { variables = h .variables; records = h .records; words = h .words }
-
-  back : SameNetwork named file
-  back =
-      record {
-        variables = sym (h .variables);
-        records = sym (h .records);
-        words = λ i l. sym (h .words i (omega (arith, h .variables, h .records)));
-      }
-
   root-word : wordAt named (1 + variableCount named + recordCount named) ≡ rootWordAt named 0
   root-word = rw (add-zero (1 + variableCount named + recordCount named)) refl
 
@@ -281,7 +275,8 @@ module _ {file named : List ℕ} (h : NamesLast file named) where
 
   same-table : tableOf named ≡ tableOf file
   same-table =
-      assembled (same-variables network) (same-records network) (same-kits network) same-roots
+      let n = h .network in
+      assembled (same-variables n) (same-records n) (same-kits n) same-roots
 
   -- the one root word is right
   named-right : WholeTable file → (r : ℕ) → r < rootCount named → RootWord (recordCount file) (rootWordAt named r)
@@ -300,23 +295,25 @@ module _ {file named : List ℕ} (h : NamesLast file named) where
   accepted-named : Accepted file → Accepted named
   accepted-named a =
       let w = whole file a in
-      carried network w (h .heading) (omega (arith, h .one)) (omega (arith, h .size, w .size, h .none, h .one)) (named-right w) (ap totalReward same-roots) a
+      carried (h .network) w (omega (arith, h .one)) (omega (arith, h .size, w .size, h .none, h .one)) (named-right w) (ap totalReward same-roots) a
 
   accepted-file : Accepted named → Accepted file
   accepted-file a =
       let w = whole named a in
-      carried back w (sym (h .heading)) (omega (arith, h .none)) (omega (arith, h .size, w .size, h .variables, h .records, h .none, h .one)) (λ r l. absurd (omega (arith, h .none))) (ap totalReward (sym same-roots)) a
+      carried (turned (h .network)) w (omega (arith, h .none)) (omega (arith, h .size, w .size, h .network .variables, h .network .records, h .none, h .one)) (λ r l. absurd (omega (arith, h .none))) (ap totalReward (sym same-roots)) a
+
+  named-alike : Accepted file → ServedAlike file named
+  named-alike a =
+      let n = h .network in
+      served-alike a (accepted-named a) (sym (n .variables)) (sym (n .records)) (sym (same-variables n))
+      (alike (tableOf file) (tableOf named) (sym (same-kits n)) (ap scale (sym same-table)) (λ p. ap (λ (t : Table). score t p) (sym same-table)))
 
 pub last-is-root : LastIsRoot
 unfolding LastIsRoot
-last-is-root file named h = (same-table h, (accepted-named h, accepted-file h))
+last-is-root file named h = (same-table h, (accepted-named h, accepted-file h), named-alike h)
 
 -- ---------------------------------------------------------------------------
 -- Several roots
-
-pub read-by-scores : ReadByScores
-unfolding ReadByScores
-read-by-scores t u kits scales scores = alike t u kits scales scores
 
 reordered-reward : {rs qs : List Root} → Reordered rs qs → totalReward rs ≡ totalReward qs
 unfolding totalReward
@@ -340,58 +337,123 @@ roots-listed file =
     (same-sequence _ _ (1 + variableCount file + recordCount file) 0 (rootCount file) (λ k l. rw (zero-add k) refl)
     ∙ sym (mapped-sequence rootOf (rootWordAt file) 0 (rootCount file)))
 
-module _ {file other : List ℕ} (h : OtherOrder file other) where
-  same-heading : wordAt other 0 ≡ wordAt file 0
-  same-heading = h .words 0 (omega arith)
-
-  same-V : variableCount other ≡ variableCount file
-  unfolding variableCount
-  same-V = ap fieldP same-heading
-
-  same-N : recordCount other ≡ recordCount file
-  unfolding recordCount
-  same-N = ap fieldQ same-heading
-
-  same-R : rootCount other ≡ rootCount file
-  unfolding rootCount
-  same-R = ap fieldR same-heading
-
-  same-network : SameNetwork file other
-  same-network = record { variables = same-V; records = same-N; words = λ i l. h .words (1 + i) (omega arith) }
-
-  reordered-roots : Reordered (tableOf file .roots) (tableOf other .roots)
-  reordered-roots =
-      rw (roots-listed file, roots-listed other, same-N) (reordered-or (recordCount file + 1) (reordered-map rootOf (h .roots)))
-
-  other-right : WholeTable file → (r : ℕ) → r < rootCount other → RootWord (recordCount file) (rootWordAt other r)
-  other-right w r l =
-      let each = each-sequence (RootWord (recordCount file)) (rootWordAt file) 0 (rootCount file) (λ k m. rw (zero-add k) (w .roots k m)) in
-      rw (zero-add r) at (each-at (RootWord (recordCount file)) (rootWordAt other) 0 (rootCount other) (each-reordered (RootWord (recordCount file)) (h .roots) each) r l)
-
-  few : WholeTable file → rootCount other ≤ 16
-  unfolding rootCount
-  few w = omega (arith, same-R, w .heading .roots)
-
+-- Two files of one network that have the same sums over their roots and right root words: if one is accepted, so is the other, and they are served alike
+module _ {file other : List ℕ} (n : SameNetwork file other) (rewards : totalReward (tableOf file .roots) ≡ totalReward (tableOf other .roots)) (sums : (f : ℕ → ℕ) → rewarded f (tableOf file .roots) ≡ rewarded f (tableOf other .roots)) (few : WholeTable file → rootCount other ≤ 16) (size : WholeTable file → length other ≡ 4 * (1 + variableCount file + recordCount file + rootCount other)) (right : WholeTable file → (r : ℕ) → r < rootCount other → RootWord (recordCount file) (rootWordAt other r)) where
   accepted-other : Accepted file → Accepted other
   accepted-other a =
       let w = whole file a in
-      carried same-network w (ap kind same-heading) (few w) (omega (arith, h .size, w .size, same-R)) (other-right w) (sym (reordered-reward reordered-roots)) a
+      carried n w (few w) (size w) (right w) (sym rewards) a
 
   same-scores : (p : List ℕ) → score (tableOf file) p ≡ score (tableOf other) p
   unfolding score scoreFrom
-  same-scores p =
-      reordered-sum _ reordered-roots ∙ rw (same-variables same-network, same-records same-network) refl
+  same-scores p = sums _ ∙ rw (same-variables n, same-records n) refl
 
   same-scale : scale (tableOf file) ≡ scale (tableOf other)
   unfolding scale
-  same-scale = rw (reordered-reward reordered-roots, same-variables same-network) refl
+  same-scale = rw (rewards, same-variables n) refl
 
-  other-alike : AnswerAlike (tableOf file) (tableOf other)
-  other-alike = alike (tableOf file) (tableOf other) (sym (same-kits same-network)) same-scale same-scores
+  other-served : Accepted file → Accepted other × ServedAlike file other
+  other-served a =
+      let tables = alike (tableOf file) (tableOf other) (sym (same-kits n)) same-scale same-scores in
+      (accepted-other a, served-alike a (accepted-other a) (sym (n .variables)) (sym (n .records)) (sym (same-variables n)) tables)
+
+-- the root words of a whole table are right, and so are those of a list that holds no others
+listed-right : {file : List ℕ} → WholeTable file → Each (RootWord (recordCount file)) (rootWords file)
+listed-right {file} w =
+    each-sequence (RootWord (recordCount file)) (rootWordAt file) 0 (rootCount file) (λ k m. rw (zero-add k) (w .roots k m))
+
+right-listed : {n : ℕ} (other : List ℕ) → Each (RootWord n) (rootWords other) → (r : ℕ) → r < rootCount other → RootWord n (rootWordAt other r)
+right-listed {n} other each r l = rw (zero-add r) at (each-at (RootWord n) (rootWordAt other) 0 (rootCount other) each r l)
+
+-- 12 lets at most 16 root words through
+few-roots : {file : List ℕ} → WholeTable file → rootCount file ≤ 16
+unfolding rootCount
+few-roots w = w .heading .roots
+
+module _ {file other : List ℕ} (h : OtherOrder file other) where
+  reordered-roots : Reordered (tableOf file .roots) (tableOf other .roots)
+  reordered-roots =
+      rw (roots-listed file, roots-listed other, h .network .records) (reordered-or (recordCount file + 1) (reordered-map rootOf (h .roots)))
+
+  order-served : Accepted file → Accepted other × ServedAlike file other
+  order-served =
+      other-served (h .network) (reordered-reward reordered-roots) (λ f. reordered-sum f reordered-roots)
+      (λ w. omega (arith, h .count, few-roots w))
+      (λ w. omega (arith, h .size, w .size, h .count))
+      (λ w. right-listed other (each-reordered _ (h .roots) (listed-right w)))
 
 pub order-is-free : OrderIsFree
 unfolding OrderIsFree
-order-is-free file other h = (accepted-other h, other-alike h)
+order-is-free file other h = order-served h
+
+-- ---------------------------------------------------------------------------
+-- A node named twice
+
+-- two roots at one node, and one with the rewards added
+module _ (x y z : Root) (one-node : (z .node ≡ x .node) × (z .node ≡ y .node)) (reward : z .reward ≡ x .reward + y .reward) (rs : List Root) where
+  added-reward : totalReward (x ∷ y ∷ rs) ≡ totalReward (z ∷ rs)
+  unfolding totalReward
+  added-reward = omega (arith, reward)
+
+  added-sum : (f : ℕ → ℕ) → rewarded f (x ∷ y ∷ rs) ≡ rewarded f (z ∷ rs)
+  unfolding rewarded
+  added-sum f = rw (← one-node .0, ← one-node .1, reward) (omega arith)
+
+module _ {file added : List ℕ} (h : AddsRewards file added) where
+  two-roots : Reordered (tableOf file .roots) (rootOf (h .first) ∷ rootOf (h .second) ∷ map rootOf (h .others))
+  unfolding rootsOr
+  two-roots = rw (roots-listed file) (reordered-or (recordCount file + 1) (reordered-map rootOf (h .two)))
+
+  one-root-word : Reordered (rootOf (h .both) ∷ map rootOf (h .others)) (tableOf added .roots)
+  unfolding rootsOr
+  one-root-word = rw (roots-listed added) (reordered-or (recordCount added + 1) (reordered-map rootOf (h .one)))
+
+  added-rewards : totalReward (tableOf file .roots) ≡ totalReward (tableOf added .roots)
+  unfolding rootOf
+  added-rewards =
+      reordered-reward two-roots
+      ∙ added-reward (rootOf (h .first)) (rootOf (h .second)) (rootOf (h .both)) (h .both-node) (h .both-reward) (map rootOf (h .others))
+      ∙ reordered-reward one-root-word
+
+  added-sums : (f : ℕ → ℕ) → rewarded f (tableOf file .roots) ≡ rewarded f (tableOf added .roots)
+  unfolding rootOf
+  added-sums f =
+      reordered-sum f two-roots
+      ∙ added-sum (rootOf (h .first)) (rootOf (h .second)) (rootOf (h .both)) (h .both-node) (h .both-reward) (map rootOf (h .others)) f
+      ∙ reordered-sum f one-root-word
+
+  added-right : WholeTable file → Each (RootWord (recordCount file)) (rootWords added)
+  unfolding Each
+  added-right w =
+      let each = each-reordered (RootWord (recordCount file)) (h .two) (listed-right w) in
+      let first = each .0 in
+      each-reordered (RootWord (recordCount file)) (h .one) (
+        record {
+          kind-is = h .both-kind;
+          zero = h .both-zero;
+          reward = (omega (arith, h .both-reward, first .reward .0), omega (arith, h .both-reward, h .limit));
+          node = (first .node .0, first .node .1, h .both-node .0 ∙ first .node .2);
+        },
+        each .1 .1,
+      )
+
+  added-served : Accepted file → Accepted added × ServedAlike file added
+  added-served =
+      other-served (h .network) added-rewards added-sums
+      (λ w. omega (arith, h .count, few-roots w))
+      (λ w. omega (arith, h .size, w .size, h .count))
+      (λ w. right-listed added (added-right w))
+
+pub twice-is-added : TwiceIsAdded
+unfolding TwiceIsAdded
+twice-is-added file added h = added-served h
+
+-- ---------------------------------------------------------------------------
+-- Tables with other roots
+
+pub read-by-scores : ReadByScores
+unfolding ReadByScores
+read-by-scores t u kits scales scores = alike t u kits scales scores
 
 -- a score and B with other roots
 rooted-score : (rs : List Root) (t : Table) (p : List ℕ) → score (withRoots rs t) p ≡ rewarded (scoreFrom t p) rs
@@ -410,6 +472,9 @@ module _ (t : Table) (rs qs : List Root) (rewards : totalReward rs ≡ totalRewa
       (rooted-scale rs t ∙ rw rewards (sym (rooted-scale qs t)))
       (λ p. rooted-score rs t p ∙ sums (scoreFrom t p) ∙ sym (rooted-score qs t p))
 
-pub twice-is-added : TwiceIsAdded
-unfolding TwiceIsAdded totalReward rewarded
-twice-is-added t node first second rs = roots-alike t _ _ (omega arith) (λ f. omega arith)
+pub roots-are-added : RootsAreAdded
+unfolding RootsAreAdded
+roots-are-added t node first second roots others h =
+    roots-alike t _ _
+    (reordered-reward h ∙ added-reward _ _ _ (refl, refl) refl others)
+    (λ f. reordered-sum f h ∙ added-sum _ _ _ (refl, refl) refl others f)

@@ -1,12 +1,12 @@
 -- Demand 1 of the briefing, in its words and with its quantifiers written out. It speaks of what the five services return and write, of what the program
--- prints, and of the rows of document 01's table "Turned away"; nothing in it is about how a file is gone through.
+-- prints, and of the rows of document 01's table "Turned away" with those of paper 3; nothing in it is about how a file is gone through.
 use Prim.Native.Nat.{ℕ, _+_, _*_}
 use mathlib.Core.Path.{_≡_}
 use mathlib.Core.List.{List}
 use lib.ListN.{length, take, drop, replicate}
 use Rattle.diagram.specs.Words.{wordAt, fieldP, fieldQ, fieldR}
 use Rattle.diagram.specs.Table.{tableOf, variableCount, recordCount, choiceCount, scale}
-use Rattle.diagram.specs.Services.{Searching, readOutcome, scoreOutcome, sweepOutcome, sweepBuffer, filterOutcome, filterBuffer, searchOutcome, searchBuffer}
+use Rattle.diagram.specs.Services.{answered, Searching, readOutcome, scoreOutcome, sweepOutcome, sweepBuffer, filterOutcome, filterBuffer, searchOutcome, searchBuffer}
 use Rattle.diagram.specs.Printout.{refusalText, planText, printout}
 use Rattle.diagram.specs.declared.refusal.Refusal.{Refusal}
 use Rattle.reading.specs.declared.answer.ReadAnswer.{ReadAnswer}
@@ -87,6 +87,10 @@ jobOf input =
     let choices = choiceCount (tableOf file .variables) in
     record { job = job; file = file; plan = replicate choices 0; percent = fieldR job; budget = fieldP job + 64 * fieldQ job; size = choices }
 
+-- The score, the visits and the plan that the search finds
+abbrev pub Finds : Request → Searching → Type 0
+Finds q found = searchOutcome (q .file) (q .plan) (q .budget) (q .percent) (q .size) ≡ answered found
+
 -- Demand 1, of any bytes and whatever comes with them: "Every public service makes the check itself, on the file and on what comes with it". Of the text
 -- is assumed what `print` promises.
 unfoldable pub Demand1 : Type 0
@@ -96,5 +100,5 @@ Demand1 =
     text ≡ printout input →
     Judged (jobOf input) programReasons
     (λ r. refusalText (r .number) (r .place))
-    (λ a. (found : Searching) × (a ≡ planText (tableOf (jobOf input .file)) found))
+    (λ a. (found : Searching) × Finds (jobOf input) found × (a ≡ planText (tableOf (jobOf input .file)) found))
     text)
