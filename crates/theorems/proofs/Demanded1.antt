@@ -103,13 +103,17 @@ program-decided input = go (jobFault (take 1329 input)) refl
         let f = row-10 (jobOf input) (take 1329 input) refl .finds i e in
         stops (at-first (f .0) (f .1)) (checked-stops _ _ _ _ i e)
 
+-- what the search of a request answers, it finds
+search-finds : (q : Request) (found : Searching) {o : Outcome Searching} → o ≡ searchOutcome (q .file) (q .plan) (q .budget) (q .percent) (q .size) → o ≡ answered found → Finds q found
+search-finds q found e f = sym e ∙ f
+
 -- what the program answers, the search finds
 program-finds : (input : List ℕ) (found : Searching) → programOutcome (take 1329 input) ≡ answered found → Finds (jobOf input) found
 unfolding jobOf programOutcome jobChecks jobKits jobOutcome
 program-finds input found e = go (jobFault (take 1329 input)) refl
   where
     go : (o : Option ℕ) → jobFault (take 1329 input) ≡ o → Finds (jobOf input) found
-    go none q = sym (checked-passes _ _ _ _ q ∙ checked-end _ _) ∙ e
+    go none q = search-finds (jobOf input) found (checked-passes _ _ _ _ q ∙ checked-end _ _) e
     go (some i) q = absurd (answered-not-refused found _ i (sym e ∙ checked-stops _ _ _ _ i q))
 
 -- ---------------------------------------------------------------------------
