@@ -9,7 +9,7 @@ use mathlib.Core.Logic.{⊎-elim, by-cases}
 use mathlib.Core.List.{List, [], _∷_, map}
 use lib.ListN.{length}
 use lib.Seq.{take-all}
-use Rattle.diagram.specs.Words.{wordAt, kind, fieldP, fieldQ, fieldR}
+use Rattle.diagram.specs.Words.{wordAt}
 use Rattle.diagram.specs.Table.{Variable, Record, Root, Table, sequence, variableOf, recordOf, kitsOf, rootOf, rootsOr, tableOf, variableCount, recordCount, rootCount, scaleOf, totalReward, scale}
 use Rattle.diagram.specs.Score.{sum, total, scoreFrom, rewarded, score}
 use Rattle.diagram.proofs.FirstVariable.{score-le-scale}

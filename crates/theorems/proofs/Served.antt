@@ -11,10 +11,9 @@ use lib.ListN.{length, drop}
 use lib.Seq.{take-all}
 use borrow.Author.Tests.{lt-ltb}
 use Rattle.diagram.specs.Words.{wordAt}
-use Rattle.diagram.specs.Table.{Table, tableOf, variableCount, recordCount, scale}
-use Rattle.diagram.specs.Plans.{cost}
+use Rattle.diagram.specs.Table.{tableOf, variableCount, recordCount}
 use Rattle.diagram.specs.Checks.{Check, planLengthFault, planMarkFault, fullPlanFault, percentFault, budgetFault, bufferFault, jobFault, jobChecks, tableChecks, scoreChecks, sweepChecks, filterChecks, searchChecks}
-use Rattle.diagram.specs.Services.{Outcome, refused, answered, checked, Reading, reading, readOutcome, scoreOutcome, sweepOutcome, filterOutcome, Searching, searchOutcome}
+use Rattle.diagram.specs.Services.{Outcome, refused, answered, checked, reading, readOutcome, scoreOutcome, sweepOutcome, filterOutcome, Searching, searchOutcome}
 use Rattle.diagram.specs.Printout.{planText, searchText, jobOutcome, programOutcome, printout}
 use Rattle.diagram.proofs.Checked.{checked-passes, checked-stops, checked-end, read-answers}
 use Rattle.theorems.specs.Reasons.{Wrong, passes-row, fileReasons, Accepted}
