@@ -1,29 +1,16 @@
--- Numbers in decimal: how many digits a number has, the digit at each place, and the table of powers of ten. Assumes nothing.
+-- Numbers in decimal: how many digits a number has, and its digits written one by one, the last first. Assumes nothing.
 use Prim.Native.Nat.{ℕ, zero, suc, _+_, _-_, _/_, _%_, _^_, _≤_, _<_}
-use native.Mathlib.Nat.{pow-suc, pow-succ', one-le-pow, div-div-eq-div-mul}
+use native.Mathlib.Nat.{pow-suc}
+use native.Mathlib.Numerals.{add-one}
 use native.Mathlib.Decide.{decLt}
 use native.Mathlib.Omega.{arith}
 use mathlib.Core.Path.{_≡_, refl, ap, sym, _∙_}
-use mathlib.Core.List.{List, [], _∷_, _++_}
+use mathlib.Core.List.{List, [], _∷_, _++_, append-nil}
 use mathlib.Core.Logic.{by-cases}
-use lib.ListN.{length, getD, length-append, List·getD-append}
-use lib.Seq.{getD-at}
+use lib.ListN.{length, set, take, drop, length-append, length-set, length-take, length-drop}
+use lib.Seq.{take-at, drop-at, take-all, take-take, drop-length, length-take-le, set-split, append-snoc}
 use borrow.Author.Tests.{lt-ltb, le-ltb}
-use Rattle.diagram.specs.Table.{sequence}
 use Rattle.diagram.specs.Printout.{digits, decimal}
-use Rattle.diagram.proofs.Places.{sequence-at}
-
--- ---------------------------------------------------------------------------
--- The table of powers
-
--- the powers of ten that 64 bits hold, the list of the code's table
-unfoldable pub powers : List ℕ
-powers = sequence (λ i. 10 ^ i) 0 20
-
--- each stands at its place
-pub power-at : (i : ℕ) → i < 20 → getD powers i 0 ≡ 10 ^ i
-unfolding powers
-power-at i h = sequence-at (λ i. 10 ^ i) 0 20 i 0 h ∙ ap (λ (k : ℕ). 10 ^ k) (omega arith)
 
 -- ---------------------------------------------------------------------------
 -- The digits of a number
@@ -49,12 +36,12 @@ digits-enough (suc f) (suc g) n h k =
     rw (digits-more f n many, digits-more g n many, digits-enough f g (n / 10) (omega arith) (omega arith)) refl)
 
 -- a number below ten is one digit
-pub decimal-small : (n : ℕ) → n < 10 → decimal n ≡ (48 + n) ∷ []
+decimal-small : (n : ℕ) → n < 10 → decimal n ≡ (48 + n) ∷ []
 unfolding decimal
 decimal-small n h = digits-small n n h
 
 -- any other has the digits of its tenth and one more
-pub decimal-more : (n : ℕ) → 10 ≤ n → decimal n ≡ decimal (n / 10) ++ (48 + n % 10) ∷ []
+decimal-more : (n : ℕ) → 10 ≤ n → decimal n ≡ decimal (n / 10) ++ (48 + n % 10) ∷ []
 unfolding decimal
 decimal-more n h = rw (digits-more n n h, digits-enough n (suc (n / 10)) (n / 10) (omega arith) (omega arith)) refl
 
@@ -67,66 +54,67 @@ count-small : (n : ℕ) → n < 10 → length (decimal n) ≡ 1
 count-small n h = rw (decimal-small n h) refl
 
 -- every number has a digit
-pub count-some : (n : ℕ) → 1 ≤ length (decimal n)
+count-some : (n : ℕ) → 1 ≤ length (decimal n)
 count-some n = by-cases (decLt n 10) (λ h. omega (arith, count-small n h)) (λ h. omega (arith, count-more n (omega arith)))
 
--- a number below 10 ^ k, where k is not 0, has at most k digits
-pub count-most : (k n : ℕ) → 1 ≤ k → n < 10 ^ k → length (decimal n) ≤ k
-count-most zero n h l = absurd (omega arith)
-count-most (suc zero) n h l = omega (arith, count-small n l)
-count-most (suc (suc k)) n h l =
+-- a number below 10 ^ suc k has at most suc k
+count-most : (k n : ℕ) → n < 10 ^ suc k → length (decimal n) ≤ suc k
+count-most zero n l = omega (arith, count-small n l)
+count-most (suc k) n l =
     by-cases (decLt n 10)
     (λ s. omega (arith, count-small n s))
-    (λ s. omega (arith, count-more n (omega arith), count-most (suc k) (n / 10) (omega arith) (omega (arith, pow-suc 10 (suc k)))))
+    (λ s. omega (arith, count-more n (omega arith), count-most k (n / 10) (omega (arith, pow-suc 10 (suc k)))))
 
--- any other has more
-pub count-least : (k n : ℕ) → 10 ^ k ≤ n → k < length (decimal n)
-count-least zero n l = count-some n
-count-least (suc k) n l =
-    let grows = pow-suc 10 k in
-    let some = one-le-pow k 10 (omega arith) in
-    omega (arith, count-more n (omega arith), count-least k (n / 10) (omega arith))
-
--- a number of 64 bits has at most 20 digits
+-- one of 64 bits has at most 20
 pub count-fits : (n : ℕ) → n < 2 ^ 64 → length (decimal n) ≤ 20
-count-fits n h = count-most 20 n (omega arith) (omega arith)
-
--- the digit that has p others after it is that of 10 ^ p
-pub digit-at : (p n i : ℕ) → i + p + 1 ≡ length (decimal n) → getD (decimal n) i 0 ≡ 48 + n / 10 ^ p % 10
-digit-at zero n i e =
-    by-cases (decLt n 10)
-    (λ h.
-    let first : i ≡ 0 = omega (arith, count-small n h) in
-    rw (first, decimal-small n h) (omega arith))
-    (λ h.
-    let many : 10 ≤ n = omega arith in
-    let last : length (decimal (n / 10)) ≡ i = omega (arith, count-more n many) in
-    rw (decimal-more n many) (getD-at (decimal (n / 10)) (48 + n % 10) [] 0 i last ∙ omega arith))
-digit-at (suc p) n i e =
-    by-cases (decLt n 10)
-    (λ h. absurd (omega (arith, count-small n h)))
-    (λ h.
-    let many : 10 ≤ n = omega arith in
-    let counts = count-more n many in
-    let before : i < length (decimal (n / 10)) = omega arith in
-    rw (decimal-more n many, List·getD-append (decimal (n / 10)) ((48 + n % 10) ∷ []) 0 i before, pow-succ' 10 p, ← div-div-eq-div-mul n 10 (10 ^ p))
-    (digit-at p (n / 10) i (omega arith)))
+count-fits n h = count-most 19 n (omega arith)
 
 -- ---------------------------------------------------------------------------
--- The code's steps, where x is the power read from the table
+-- Digits written from the end of a room on
 
--- at the first power above a number, its digits are counted
-pub counted-here : (n i : ℕ) {x : ℕ} → x ≡ 10 ^ i → n < x → 1 ≤ i → i ≤ length (decimal n) → i ≡ length (decimal n)
-counted-here n i e l h k = omega (arith, count-most i n h (omega arith))
+-- what stands from place i on are the digits of n after those of m, and what stands before is kept
+pub record Ending (n m : ℕ) (before : List ℕ) (i : ℕ) (room : List ℕ) : Type 0 where
+  pub text : decimal m ++ drop i room ≡ decimal n
+  pub kept : take i room ≡ take i before
+  pub size : length room ≡ length before
 
--- a number that is not below a power has a digit more
-pub counted-next : (n i : ℕ) {x : ℕ} → x ≡ 10 ^ i → x ≤ n → i + 1 ≤ length (decimal n)
-counted-next n i e l = omega (arith, count-least i n (omega arith))
+-- no digit is written at the start
+pub ending-start : {n : ℕ} {before : List ℕ} (k : ℕ) → length before ≡ k → Ending n n before k before
+ending-start {n} {before} k e = record { text = rw (← e, drop-length before, append-nil) refl; kept = refl; size = refl }
 
--- past the last power there are 20
-pub counted-all : (n i : ℕ) → n < 2 ^ 64 → 20 ≤ i → i ≤ length (decimal n) → 20 ≡ length (decimal n)
-counted-all n i h l k = omega (arith, count-fits n h)
+module _ (i : ℕ) {n m : ℕ} {before room : List ℕ} (w : Ending n m before (i + 1) room) where
+  -- where more than one digit is left, there is a place before this one
+  pub ending-more : n < 2 ^ 64 → length before ≡ 20 → 10 ≤ m → 1 ≤ i
+  ending-more h e l =
+      omega (arith, e, w .size, count-fits n h, count-more m l, count-some (m / 10), ap length (w .text), length-append (decimal m) (drop (i + 1) room), length-drop (i + 1) room)
 
--- the digit at place i from the front
-pub digit-written : (n i count : ℕ) {v : ℕ} → v ≡ 48 + n / 10 ^ (count - 1 - i) % 10 → count ≡ length (decimal n) → i < count → v ≡ getD (decimal n) i 0
-digit-written n i count e h l = e ∙ sym (digit-at (count - 1 - i) n i (omega arith))
+  module _ (v : ℕ) (h : i < length before) where
+    -- a digit put before those that are written
+    put-before : set room i v ≡ take i before ++ v ∷ drop (i + 1) room
+    put-before =
+        let same : take i room ≡ take i before =
+        sym (take-take i (i + 1) room (omega arith)) ∙ rw (w .kept) (take-take i (i + 1) before (omega arith))
+        in
+        set-split room i v (omega (arith, w .size)) ∙ rw (same, add-one i) refl
+
+    -- the last digit of what is left, of which a tenth is left after it
+    pub ending-next : {q : ℕ} → 10 ≤ m → q ≡ m / 10 → v ≡ 48 + m % 10 → Ending n q before i (set room i v)
+    ending-next l d e =
+        let front : length (take i before) ≡ i = length-take-le i before (omega arith) in
+        record {
+          text = rw (put-before, drop-at (take i before) (v ∷ drop (i + 1) room) i front, d, e, ← append-snoc, ← decimal-more m l) (w .text);
+          kept = rw put-before (take-at (take i before) (v ∷ drop (i + 1) room) i front);
+          size = length-set room i v ∙ w .size;
+        }
+
+    -- the only one
+    pub ending-last : m < 10 → v ≡ 48 + m → set room i v ≡ take i before ++ decimal n
+    ending-last l e = put-before ∙ rw (e, ← w .text, decimal-small m l) refl
+
+-- at the end they are what stands from place i on
+pub ending-all : (n : ℕ) (before : List ℕ) (i : ℕ) {room : List ℕ} → room ≡ take i before ++ decimal n → length room ≡ length before → (i ≤ length before) × (take (length before - i) (drop i room) ≡ decimal n)
+ending-all n before i {room} e h =
+    let counts : length room ≡ length (take i before) + length (decimal n) = ap length e ∙ length-append (take i before) (decimal n) in
+    let within : i ≤ length before = omega (arith, h, counts, count-some n, length-take i before) in
+    let front : length (take i before) ≡ i = length-take-le i before within in
+    (within, rw (e, drop-at (take i before) (decimal n) i front) (take-all (length before - i) (decimal n) (omega (arith, h, counts))))

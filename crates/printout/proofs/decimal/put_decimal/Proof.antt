@@ -1,77 +1,50 @@
--- `put_decimal` meets its contract. The loop's invariant: the first i digits are written. The measure is the number of digits left. Assumes nothing.
+-- `put_decimal` meets its contract: the word written is the end of the room, which has the digits. Assumes nothing.
 use Prim.Native.Nat.{_-_, _≤_}
-use native.Mathlib.Omega.{arith}
+use mathlib.Core.Path.{_≡_}
+use lib.ListN.{take, drop}
 use borrow.Author.Needs.{needs}
 use Rattle.diagram.specs.Printout.{decimal}
-use Rattle.printout.proofs.Digits.{digit-written}
-use Rattle.printout.proofs.Writes.{Writing, writing-start, writing-next, writing-end}
+use Rattle.printout.proofs.Digits.{ending-all}
 use Rattle.printout.proofs.decimal.put_decimal.Statement.{statement}
 use Rattle.printout.proofs.decimal.put_decimal.Tie as tie
 
-abbrev Inv-loop : tie.InvT-loop
-Inv-loop out₀ at n count i₀ out i = (i ≤ count) × Writing out₀ at (decimal n) out i
+-- the digits are the end of the room
+digits : (c : tie.After-put-digits) → (c .put-digits .result ≤ 20) × (take (20 - c .put-digits .result) (drop (c .put-digits .result) (c .put-digits .last .0)) ≡ decimal (c .before .before .before .args .n))
+digits c = ending-all _ _ _ (c .put-digits .ensures) (c .put-digits .kept .0)
 
-abbrev μ-loop : tie.MeasureT-loop
-μ-loop out₀ at n count i₀ out i = count - i
+slice-aggregate-put-digits : tie.Need-slice-aggregate-put-digits
+slice-aggregate-put-digits c = search needs
 
-digit-count-requires : tie.Need-digit-count-requires Inv-loop μ-loop
-digit-count-requires c κs = search needs
+put-digits-requires : tie.Need-put-digits-requires
+put-digits-requires c κs = search needs
 
-loop-holds : tie.Need-loop-holds Inv-loop μ-loop
-loop-holds c = (omega arith, writing-start)
+sub-put-word : tie.Need-sub-put-word
+sub-put-word c = digits (c .before .before) .0
 
-sub-digit : tie.Need-sub-digit Inv-loop μ-loop
-sub-digit c = omega arith
+part-put-word-start : tie.Need-part-put-word-start
+part-put-word-start c = digits (c .before .before .before) .0
 
-sub-digit-2 : tie.Need-sub-digit-2 Inv-loop μ-loop
-sub-digit-2 c = omega arith
+part-put-word-end : tie.Need-part-put-word-end
+part-put-word-end c = search needs
 
-digit-requires : tie.Need-digit-requires Inv-loop μ-loop
-digit-requires c κs = omega arith
+put-word-requires : tie.Need-put-word-requires
+put-word-requires c κs = search needs
 
-add-out : tie.Need-add-out Inv-loop μ-loop
-add-out c = omega arith
+same-length : tie.Need-same-length
+same-length c = search needs
 
-slice-write-out : tie.Need-slice-write-out Inv-loop μ-loop
-slice-write-out c = omega arith
-
-add-i : tie.Need-add-i Inv-loop μ-loop
-add-i c = omega arith
-
-loop-less : tie.Need-loop-less Inv-loop μ-loop
-loop-less c = omega arith
-
-loop-again : tie.Need-loop-again Inv-loop μ-loop
-loop-again c =
-    let counted = c .before .before .before .digit-count in
-    let here = c .before .before .loop in
-    (omega arith, writing-next (here .inv .1) (omega arith) (omega arith) (digit-written _ (here .i) (counted .result) (c .digit .ensures) (counted .ensures .0) (omega arith)))
-
-add-result : tie.Need-add-result Inv-loop μ-loop
-add-result c = omega arith
-
-same-length : tie.Need-same-length Inv-loop μ-loop
-same-length c = c .before .loop .inv .1 .size
-
-returns : tie.Need-returns Inv-loop μ-loop
-returns c = writing-end (c .before .loop .inv .1) (c .before .before .digit-count .ensures .0) (omega arith) (omega arith)
+returns : tie.Need-returns
+returns c = rw (← digits (c .before .before .before .before .before .before .before) .1) (c .before .before .put-word .ensures)
 
 pub put-decimal-spec : {M : Type 1} → statement M
 put-decimal-spec =
     tie.close
     (tie.spec
-    Inv-loop
-    μ-loop
-    digit-count-requires
-    loop-holds
-    sub-digit
-    sub-digit-2
-    digit-requires
-    add-out
-    slice-write-out
-    add-i
-    loop-less
-    loop-again
-    add-result
+    slice-aggregate-put-digits
+    put-digits-requires
+    sub-put-word
+    part-put-word-start
+    part-put-word-end
+    put-word-requires
     same-length
     returns)
