@@ -5,6 +5,7 @@
 #[path = "../target/bench/before.rs"]
 mod before;
 mod compare;
+mod digits;
 #[path = "../examples/jigbalo.rs"]
 mod jigbalo;
 mod plain;
@@ -19,6 +20,9 @@ fn main() {
         let each: Vec<String> = counts.iter().map(|(number, n)| format!("{number}: {n}")).collect();
         println!("  {service:<6} {}", each.join(", "));
     }
+    println!("{} numbers printed, all texts the same", digits::compare());
     println!();
     timing::table();
+    println!();
+    digits::table();
 }

@@ -44,7 +44,7 @@ fn layered(wanted: u64, roots: usize) -> Job {
 }
 
 /// The processor time of this thread, so that what else the machine does counts little.
-fn processor_time() -> Duration {
+pub fn processor_time() -> Duration {
     #[repr(C)]
     struct Timespec {
         seconds: i64,
