@@ -1167,6 +1167,26 @@ note("Requests of opened tables with root words")
 on_opened_tables(first_refusals(services))
 on_opened_tables(answered(services)[::10])
 
+note("Printed numbers at the powers of ten and next to them")
+
+
+def any_of(events):
+    """Events of which one is enough."""
+    n = len(events)
+    return table([chance(i, a, b) for i, (a, b) in enumerate(events)], [record(n - 1 - i, 1, i + 1 if i else 0) for i in range(n)])
+
+
+for k in range(1, 17):
+    runs(f"B and score 10^{k}", [job_of(0, 100)] + any_of([(10, 10)] * k))
+    runs(f"B 10^{k}, score one less", [job_of(0, 0)] + any_of([(9, 10)] * k))
+    runs(f"B 10^16, score 10^{16 - k}", [job_of(0, 0)] + table([chance(i, 1, 10) for i in range(16)], [record(k - 1 - i, i + 1, 0) for i in range(k)]))
+for scales in ([9], [99], [999], [99, 101], [369, 271], [999, 7, 143], [99, 101, 73, 137]):
+    runs(f"B and score {prod(scales)}", [job_of(0, 100)] + any_of([(b, b) for b in scales]))
+for own in ([9], [10], [99], [100], [499, 500], [500, 500], [500] * 19 + [499], [500] * 20):
+    runs(f"{sum(own)} kits", [job_of(sum(own), 100)] + with_kits(network(len(own), [set(range(len(own)))], False), own))
+for i in (9, 10, 99, 100, 199, 200, 299, 300):
+    runs(f"word {i} wrong", job + put(large, i, 0))
+
 with open("../crates/cases/stdin", "w") as out:
     out.write("\n".join(lines) + "\n")
 with open("../crates/cases/stdout", "w") as out:
