@@ -82,34 +82,34 @@ pub record Ending (n m : ℕ) (before : List ℕ) (i : ℕ) (room : List ℕ) : 
 pub ending-start : {n : ℕ} {before : List ℕ} (k : ℕ) → length before ≡ k → Ending n n before k before
 ending-start {n} {before} k e = record { text = rw (← e, drop-length before, append-nil) refl; kept = refl; size = refl }
 
-module _ (i : ℕ) {n m : ℕ} {before room : List ℕ} (w : Ending n m before (i + 1) room) where
-  -- where more than one digit is left, there is a place before this one
-  pub ending-more : n < 2 ^ 64 → length before ≡ 20 → 10 ≤ m → 1 ≤ i
-  ending-more h e l =
-      omega (arith, e, w .size, count-fits n h, count-more m l, count-some (m / 10), ap length (w .text), length-append (decimal m) (drop (i + 1) room), length-drop (i + 1) room)
+module _ {n m k : ℕ} {before room : List ℕ} (w : Ending n m before k room) where
+  -- there is a place for the last digit of what is left
+  pub ending-some : n < 2 ^ 64 → length before ≡ 20 → 1 ≤ k
+  ending-some h e =
+      omega (arith, e, w .size, count-fits n h, count-some m, ap length (w .text), length-append (decimal m) (drop k room), length-drop k room)
 
-  module _ (v : ℕ) (h : i < length before) where
-    -- a digit put before those that are written
-    put-before : set room i v ≡ take i before ++ v ∷ drop (i + 1) room
+  module _ (i v : ℕ) (e : k ≡ i + 1) (h : k ≤ length before) where
+    -- it is put before those that are written
+    put-before : set room i v ≡ take i before ++ v ∷ drop k room
     put-before =
         let same : take i room ≡ take i before =
-        sym (take-take i (i + 1) room (omega arith)) ∙ rw (w .kept) (take-take i (i + 1) before (omega arith))
+        sym (take-take i k room (omega arith)) ∙ rw (w .kept) (take-take i k before (omega arith))
         in
-        set-split room i v (omega (arith, w .size)) ∙ rw (same, add-one i) refl
+        set-split room i v (omega (arith, w .size)) ∙ rw (same, e, add-one i) refl
 
-    -- the last digit of what is left, of which a tenth is left after it
+    -- a tenth is left after it
     pub ending-next : {q : ℕ} → 10 ≤ m → q ≡ m / 10 → v ≡ 48 + m % 10 → Ending n q before i (set room i v)
-    ending-next l d e =
+    ending-next l d x =
         let front : length (take i before) ≡ i = length-take-le i before (omega arith) in
         record {
-          text = rw (put-before, drop-at (take i before) (v ∷ drop (i + 1) room) i front, d, e, ← append-snoc, ← decimal-more m l) (w .text);
-          kept = rw put-before (take-at (take i before) (v ∷ drop (i + 1) room) i front);
+          text = rw (put-before, drop-at (take i before) (v ∷ drop k room) i front, d, x, ← append-snoc, ← decimal-more m l) (w .text);
+          kept = rw put-before (take-at (take i before) (v ∷ drop k room) i front);
           size = length-set room i v ∙ w .size;
         }
 
-    -- the only one
+    -- or nothing, where it is the only one
     pub ending-last : m < 10 → v ≡ 48 + m → set room i v ≡ take i before ++ decimal n
-    ending-last l e = put-before ∙ rw (e, ← w .text, decimal-small m l) refl
+    ending-last l x = put-before ∙ rw (x, ← w .text, decimal-small m l) refl
 
 -- at the end they are what stands from place i on
 pub ending-all : (n : ℕ) (before : List ℕ) (i : ℕ) {room : List ℕ} → room ≡ take i before ++ decimal n → length room ≡ length before → (i ≤ length before) × (take (length before - i) (drop i room) ≡ decimal n)

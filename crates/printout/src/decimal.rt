@@ -23,14 +23,15 @@ fn put_digits(room: &mut [u8], n: u64) -> usize
     requires { ⌜ length (now room) ≡ 20 ⌝ }
     ensures { λ r. ⌜ now (room .exit) ≡ take r (now (room .entry)) ++ decimal n ⌝ }
 {
-    let mut at = 19;
+    let mut at = 20;
     let mut left = n;
-    while left >= 10 {
+    loop {
         let tenth = left / 10;
-        room[at] = (48 + (left - 10 * tenth)) as u8;
-        left = tenth;
         at -= 1;
+        room[at] = (48 + (left - 10 * tenth)) as u8;
+        if tenth == 0 {
+            return at;
+        }
+        left = tenth;
     }
-    room[at] = (48 + left) as u8;
-    at
 }
