@@ -111,7 +111,7 @@ module _ {n m k : ℕ} {before room : List ℕ} (w : Ending n m before k room) w
     pub ending-last : m < 10 → v ≡ 48 + m → set room i v ≡ take i before ++ decimal n
     ending-last l x = put-before ∙ rw (x, ← w .text, decimal-small m l) refl
 
--- at the end they are what stands from place i on
+-- a room that ends with a number has it from place i on
 pub ending-all : (n : ℕ) (before : List ℕ) (i : ℕ) {room : List ℕ} → room ≡ take i before ++ decimal n → length room ≡ length before → (i ≤ length before) × (take (length before - i) (drop i room) ≡ decimal n)
 ending-all n before i {room} e h =
     let counts : length room ≡ length (take i before) + length (decimal n) = ap length e ∙ length-append (take i before) (decimal n) in
