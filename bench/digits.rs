@@ -60,17 +60,17 @@ pub fn compare() -> usize {
     numbers.len()
 }
 
-/// Nanoseconds of a number for each program: the least of 2,000 rounds, in each of which every program has its turn of 500.
+/// Nanoseconds of a number for each program: the least of 200 rounds, in each of which every program has its turn of 10,000.
 fn times(n: u64) -> [f64; PROGRAMS.len()] {
     let mut least = [f64::INFINITY; PROGRAMS.len()];
     let mut out = [0; 32];
-    for _ in 0..2000 {
+    for _ in 0..200 {
         for (least, &program) in least.iter_mut().zip(PROGRAMS) {
             let start = processor_time();
-            for _ in 0..500 {
+            for _ in 0..10_000 {
                 black_box(put(program, black_box(&mut out), 3, black_box(n)));
             }
-            *least = least.min((processor_time() - start).as_nanos() as f64 / 500.0);
+            *least = least.min((processor_time() - start).as_nanos() as f64 / 10_000.0);
         }
     }
     least

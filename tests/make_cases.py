@@ -1180,9 +1180,9 @@ for k in range(1, 17):
     runs(f"B and score 10^{k}", [job_of(0, 100)] + any_of([(10, 10)] * k))
     runs(f"B 10^{k}, score one less", [job_of(0, 0)] + any_of([(9, 10)] * k))
     runs(f"B 10^16, score 10^{16 - k}", [job_of(0, 0)] + table([chance(i, 1, 10) for i in range(16)], [record(k - 1 - i, i + 1, 0) for i in range(k)]))
-for scales in ([9], [99], [999], [99, 101], [369, 271], [999, 7, 143], [99, 101, 73, 137]):
+for scales in ([9], [11], [99], [101], [999], [7, 143], [99, 101], [73, 137], [369, 271], [999, 7, 143], [99, 101, 73, 137]):
     runs(f"B and score {prod(scales)}", [job_of(0, 100)] + any_of([(b, b) for b in scales]))
-for own in ([9], [10], [99], [100], [499, 500], [500, 500], [500] * 19 + [499], [500] * 20):
+for own in ([1] * 9, [1] * 10, [1] * 11, [99], [100], [101], [499, 500], [500, 500], [500] * 19 + [499], [500] * 20):
     runs(f"{sum(own)} kits", [job_of(sum(own), 100)] + with_kits(network(len(own), [set(range(len(own)))], False), own))
 for i in (9, 10, 99, 100, 199, 200, 299, 300):
     runs(f"word {i} wrong", job + put(large, i, 0))

@@ -1,16 +1,17 @@
--- Numbers in decimal: how many digits a number has, and its digits written one by one, the last first. Assumes nothing.
+-- Numbers in decimal: how many digits a number has, and its digits put into a room one by one, the last first. Assumes nothing.
 use Prim.Native.Nat.{ℕ, zero, suc, _+_, _-_, _/_, _%_, _^_, _≤_, _<_}
 use native.Mathlib.Nat.{pow-suc}
 use native.Mathlib.Numerals.{add-one}
 use native.Mathlib.Decide.{decLt}
 use native.Mathlib.Omega.{arith}
-use mathlib.Core.Path.{_≡_, refl, ap, sym, _∙_}
+use mathlib.Core.Path.{_≡_, refl, ap, _∙_}
 use mathlib.Core.List.{List, [], _∷_, _++_, append-nil}
 use mathlib.Core.Logic.{by-cases}
-use lib.ListN.{length, set, take, drop, length-append, length-set, length-take, length-drop}
-use lib.Seq.{take-at, drop-at, take-all, take-take, drop-length, length-take-le, set-split, append-snoc}
+use lib.ListN.{length, set, take, drop, length-append, length-set, length-drop}
+use lib.Seq.{drop-at, take-all, drop-length, length-take-le, set-split, append-snoc}
 use borrow.Author.Tests.{lt-ltb, le-ltb}
 use Rattle.diagram.specs.Printout.{digits, decimal}
+use Rattle.printout.specs.Writing.{Wrote}
 
 -- ---------------------------------------------------------------------------
 -- The digits of a number
@@ -70,51 +71,35 @@ pub count-fits : (n : ℕ) → n < 2 ^ 64 → length (decimal n) ≤ 20
 count-fits n h = count-most 19 n (omega arith)
 
 -- ---------------------------------------------------------------------------
--- Digits written from the end of a room on
+-- Digits put into a room of 20 places, from its end towards its front
 
--- what stands from place i on are the digits of n after those of m, and what stands before is kept
-pub record Ending (n m : ℕ) (before : List ℕ) (i : ℕ) (room : List ℕ) : Type 0 where
+-- from place i on the room has the digits of n that come after those of m
+pub record Ending (n m i : ℕ) (room : List ℕ) : Type 0 where
   pub text : decimal m ++ drop i room ≡ decimal n
-  pub kept : take i room ≡ take i before
-  pub size : length room ≡ length before
+  pub size : length room ≡ 20
 
--- no digit is written at the start
-pub ending-start : {n : ℕ} {before : List ℕ} (k : ℕ) → length before ≡ k → Ending n n before k before
-ending-start {n} {before} k e = record { text = rw (← e, drop-length before, append-nil) refl; kept = refl; size = refl }
+-- at the start it has none
+pub ending-start : (n : ℕ) (room : List ℕ) → length room ≡ 20 → Ending n n 20 room
+ending-start n room e = record { text = rw (← e, drop-length room, append-nil) refl; size = e }
 
-module _ {n m k : ℕ} {before room : List ℕ} (w : Ending n m before k room) where
+module _ {n m k : ℕ} {room : List ℕ} (w : Ending n m k room) where
   -- there is a place for the last digit of what is left
-  pub ending-some : n < 2 ^ 64 → length before ≡ 20 → 1 ≤ k
-  ending-some h e =
-      omega (arith, e, w .size, count-fits n h, count-some m, ap length (w .text), length-append (decimal m) (drop k room), length-drop k room)
+  pub ending-some : n < 2 ^ 64 → 1 ≤ k
+  ending-some h = omega (arith, w .size, count-fits n h, count-some m, simp (length-append, length-drop) at (ap length (w .text)))
 
-  module _ (i v : ℕ) (e : k ≡ i + 1) (h : k ≤ length before) where
-    -- it is put before those that are written
-    put-before : set room i v ≡ take i before ++ v ∷ drop k room
+  module _ (i v : ℕ) (e : k ≡ i + 1) (h : k ≤ 20) where
+    -- it is put before those that stand there
+    put-before : drop i (set room i v) ≡ v ∷ drop k room
     put-before =
-        let same : take i room ≡ take i before =
-        sym (take-take i k room (omega arith)) ∙ rw (w .kept) (take-take i k before (omega arith))
-        in
-        set-split room i v (omega (arith, w .size)) ∙ rw (same, e, add-one i) refl
+        let l : i < length room = omega (arith, w .size) in
+        rw (set-split room i v l, drop-at (take i room) (v ∷ drop (suc i) room) i (length-take-le i room (omega arith)), e, add-one) refl
 
     -- a tenth is left after it
-    pub ending-next : {q : ℕ} → 10 ≤ m → q ≡ m / 10 → v ≡ 48 + m % 10 → Ending n q before i (set room i v)
-    ending-next l d x =
-        let front : length (take i before) ≡ i = length-take-le i before (omega arith) in
-        record {
-          text = rw (put-before, drop-at (take i before) (v ∷ drop k room) i front, d, x, ← append-snoc, ← decimal-more m l) (w .text);
-          kept = rw put-before (take-at (take i before) (v ∷ drop k room) i front);
-          size = length-set room i v ∙ w .size;
-        }
+    pub ending-next : {q : ℕ} → 10 ≤ m → q ≡ m / 10 → v ≡ 48 + m % 10 → Ending n q i (set room i v)
+    ending-next l d x = record { text = rw (put-before, d, x, ← append-snoc, ← decimal-more m l) (w .text); size = length-set room i v ∙ w .size }
 
-    -- or nothing, where it is the only one
-    pub ending-last : m < 10 → v ≡ 48 + m → set room i v ≡ take i before ++ decimal n
-    ending-last l x = put-before ∙ rw (x, ← w .text, decimal-small m l) refl
-
--- a room that ends with a number has it from place i on
-pub ending-all : (n : ℕ) (before : List ℕ) (i : ℕ) {room : List ℕ} → room ≡ take i before ++ decimal n → length room ≡ length before → (i ≤ length before) × (take (length before - i) (drop i room) ≡ decimal n)
-ending-all n before i {room} e h =
-    let counts : length room ≡ length (take i before) + length (decimal n) = ap length e ∙ length-append (take i before) (decimal n) in
-    let within : i ≤ length before = omega (arith, h, counts, count-some n, length-take i before) in
-    let front : length (take i before) ≡ i = length-take-le i before within in
-    (within, rw (e, drop-at (take i before) (decimal n) i front) (take-all (length before - i) (decimal n) (omega (arith, h, counts))))
+    -- or nothing, where it is the only one: what is written from there on is the number
+    pub ending-last : {a b : List ℕ} {at end : ℕ} → Wrote a at b end (take (20 - i) (drop i (set room i v))) → m < 10 → v ≡ 48 + m → Wrote a at b end (decimal n)
+    ending-last wrote l x =
+        let all = take-all (20 - i) (drop i (set room i v)) (omega (arith, w .size, length-drop i (set room i v), length-set room i v)) in
+        rw (← w .text, decimal-small m l, ← x, ← put-before, ← all) wrote

@@ -1,50 +1,87 @@
--- `put_decimal` meets its contract: the word written is the end of the room, which has the digits. Assumes nothing.
+-- `put_decimal` meets its contract. The loop's invariant: from the place of the first digit on the room has the digits that come after those of what is left.
+-- The measure is what is left. Assumes nothing.
 use Prim.Native.Nat.{_-_, _≤_}
-use mathlib.Core.Path.{_≡_}
-use lib.ListN.{take, drop}
-use borrow.Author.Needs.{needs}
-use Rattle.diagram.specs.Printout.{decimal}
-use Rattle.printout.proofs.Digits.{ending-all}
+use native.Mathlib.Omega.{arith}
+use mathlib.Core.Path.{_≡_, refl, ap, _∙_}
+use lib.ListN.{length, length-take, length-set}
+use Rattle.printout.proofs.Digits.{Ending, ending-start, ending-some, ending-next, ending-last}
 use Rattle.printout.proofs.decimal.put_decimal.Statement.{statement}
 use Rattle.printout.proofs.decimal.put_decimal.Tie as tie
 
--- the digits are the end of the room
-digits : (c : tie.After-put-digits) → (c .put-digits .result ≤ 20) × (take (20 - c .put-digits .result) (drop (c .put-digits .result) (c .put-digits .last .0)) ≡ decimal (c .before .before .before .args .n))
-digits c = ending-all _ _ _ (c .put-digits .ensures) (c .put-digits .kept .0)
+abbrev Inv-loop : tie.InvT-loop
+Inv-loop out₀ at n room₀ first₀ left₀ out room first left = (out ≡ out₀) × (first ≤ 20) × (left ≤ n) × Ending n left first room
 
-slice-aggregate-put-digits : tie.Need-slice-aggregate-put-digits
-slice-aggregate-put-digits c = search needs
+abbrev μ-loop : tie.MeasureT-loop
+μ-loop out₀ at n room₀ first₀ left₀ out room first left = left
 
-put-digits-requires : tie.Need-put-digits-requires
-put-digits-requires c κs = search needs
+loop-holds : tie.Need-loop-holds Inv-loop μ-loop
+loop-holds c = (refl, omega arith, omega arith, ending-start _ _ refl)
 
-sub-put-word : tie.Need-sub-put-word
-sub-put-word c = digits (c .before .before) .0
+sub-first : tie.Need-sub-first Inv-loop μ-loop
+sub-first c = ending-some (c .loop .inv .3) (omega arith)
 
-part-put-word-start : tie.Need-part-put-word-start
-part-put-word-start c = digits (c .before .before .before) .0
+mul-room : tie.Need-mul-room Inv-loop μ-loop
+mul-room c = omega arith
 
-part-put-word-end : tie.Need-part-put-word-end
-part-put-word-end c = search needs
+sub-room : tie.Need-sub-room Inv-loop μ-loop
+sub-room c = omega arith
 
-put-word-requires : tie.Need-put-word-requires
-put-word-requires c κs = search needs
+add-room : tie.Need-add-room Inv-loop μ-loop
+add-room c = omega arith
 
-same-length : tie.Need-same-length
-same-length c = search needs
+cast-room : tie.Need-cast-room Inv-loop μ-loop
+cast-room c = omega arith
 
-returns : tie.Need-returns
-returns c = rw (← digits (c .before .before .before .before .before .before .before) .1) (c .before .before .put-word .ensures)
+array-write-room : tie.Need-array-write-room Inv-loop μ-loop
+array-write-room c = omega (arith, sub-first c, c .loop .inv .3 .size)
+
+sub-put-word : tie.Need-sub-put-word Inv-loop μ-loop
+sub-put-word c = omega arith
+
+part-put-word-start : tie.Need-part-put-word-start Inv-loop μ-loop
+part-put-word-start c = omega arith
+
+part-put-word-end : tie.Need-part-put-word-end Inv-loop μ-loop
+part-put-word-end c = simp length-set (omega (arith, c .before .before .before .loop .inv .3 .size))
+
+put-word-requires : tie.Need-put-word-requires Inv-loop μ-loop
+put-word-requires c κs = simp (length-take, c .before .before .before .before .loop .inv .0) (omega arith)
+
+same-length : tie.Need-same-length Inv-loop μ-loop
+same-length c = c .before .before .put-word .ensures .size ∙ ap length (c .before .before .before .before .before .before .before .loop .inv .0)
+
+returns : tie.Need-returns Inv-loop μ-loop
+returns c =
+    let turn = c .before .before .before .before .before .before .before in
+    rw (← turn .loop .inv .0)
+    (ending-last (turn .loop .inv .3) (turn .loop .first - 1) _ (omega (arith, sub-first turn)) (omega arith) (c .before .before .put-word .ensures) (omega arith) (omega arith))
+
+loop-less : tie.Need-loop-less Inv-loop μ-loop
+loop-less c = omega arith
+
+loop-again : tie.Need-loop-again Inv-loop μ-loop
+loop-again c =
+    let turn = c .before in
+    (turn .loop .inv .0, omega arith, omega arith, ending-next (turn .loop .inv .3) (turn .loop .first - 1) _ (omega (arith, sub-first turn)) (omega arith) (omega arith) (omega arith) (omega arith))
 
 pub put-decimal-spec : {M : Type 1} → statement M
 put-decimal-spec =
     tie.close
     (tie.spec
-    slice-aggregate-put-digits
-    put-digits-requires
+    Inv-loop
+    μ-loop
+    loop-holds
+    sub-first
+    mul-room
+    sub-room
+    add-room
+    cast-room
+    array-write-room
     sub-put-word
     part-put-word-start
     part-put-word-end
     put-word-requires
     same-length
-    returns)
+    returns
+    loop-less
+    loop-again)
