@@ -74,18 +74,18 @@ count-fits n h = count-most 19 n (omega arith)
 -- Digits put into a room of 20 places, from its end towards its front
 
 -- from place i on the room has the digits of n that come after those of m
-pub record Ending (n m i : ℕ) (room : List ℕ) : Type 0 where
+pub record Tail (n m i : ℕ) (room : List ℕ) : Type 0 where
   pub text : decimal m ++ drop i room ≡ decimal n
   pub size : length room ≡ 20
 
 -- at the start it has none
-pub ending-start : (n : ℕ) (room : List ℕ) → length room ≡ 20 → Ending n n 20 room
-ending-start n room e = record { text = rw (← e, drop-length room, append-nil) refl; size = e }
+pub tail-start : (n : ℕ) (room : List ℕ) → length room ≡ 20 → Tail n n 20 room
+tail-start n room e = record { text = rw (← e, drop-length room, append-nil) refl; size = e }
 
-module _ {n m k : ℕ} {room : List ℕ} (w : Ending n m k room) where
+module _ {n m k : ℕ} {room : List ℕ} (w : Tail n m k room) where
   -- there is a place for the last digit of what is left
-  pub ending-some : n < 2 ^ 64 → 1 ≤ k
-  ending-some h = omega (arith, w .size, count-fits n h, count-some m, simp (length-append, length-drop) at (ap length (w .text)))
+  pub tail-some : n < 2 ^ 64 → 1 ≤ k
+  tail-some h = omega (arith, w .size, count-fits n h, count-some m, simp (length-append, length-drop) at (ap length (w .text)))
 
   module _ (i v : ℕ) (e : k ≡ i + 1) (h : k ≤ 20) where
     -- it is put before those that stand there
@@ -95,11 +95,11 @@ module _ {n m k : ℕ} {room : List ℕ} (w : Ending n m k room) where
         rw (set-split room i v l, drop-at (take i room) (v ∷ drop (suc i) room) i (length-take-le i room (omega arith)), e, add-one) refl
 
     -- a tenth is left after it
-    pub ending-next : {q : ℕ} → 10 ≤ m → q ≡ m / 10 → v ≡ 48 + m % 10 → Ending n q i (set room i v)
-    ending-next l d x = record { text = rw (put-before, d, x, ← append-snoc, ← decimal-more m l) (w .text); size = length-set room i v ∙ w .size }
+    pub tail-next : {j q : ℕ} → j ≡ i → 10 ≤ m → q ≡ m / 10 → v ≡ 48 + m % 10 → Tail n q i (set room j v)
+    tail-next {j} s l d x = record { text = rw (s, put-before, d, x, ← append-snoc, ← decimal-more m l) (w .text); size = length-set room j v ∙ w .size }
 
     -- or nothing, where it is the only one: what is written from there on is the number
-    pub ending-last : {a b : List ℕ} {at end : ℕ} → Wrote a at b end (take (20 - i) (drop i (set room i v))) → m < 10 → v ≡ 48 + m → Wrote a at b end (decimal n)
-    ending-last wrote l x =
+    pub tail-last : {j : ℕ} {a b : List ℕ} {at end : ℕ} → Wrote a at b end (take (20 - i) (drop i (set room j v))) → j ≡ i → m < 10 → v ≡ 48 + m → Wrote a at b end (decimal n)
+    tail-last wrote s l x =
         let all = take-all (20 - i) (drop i (set room i v)) (omega (arith, w .size, length-drop i (set room i v), length-set room i v)) in
-        rw (← w .text, decimal-small m l, ← x, ← put-before, ← all) wrote
+        rw (← w .text, decimal-small m l, ← x, ← put-before, ← all) (rw s at wrote)

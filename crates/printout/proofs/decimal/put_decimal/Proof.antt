@@ -4,21 +4,21 @@ use Prim.Native.Nat.{_-_, _≤_}
 use native.Mathlib.Omega.{arith}
 use mathlib.Core.Path.{_≡_, refl, ap, _∙_}
 use lib.ListN.{length, length-take, length-set}
-use Rattle.printout.proofs.Digits.{Ending, ending-start, ending-some, ending-next, ending-last}
+use Rattle.printout.proofs.Digits.{Tail, tail-start, tail-some, tail-next, tail-last}
 use Rattle.printout.proofs.decimal.put_decimal.Statement.{statement}
 use Rattle.printout.proofs.decimal.put_decimal.Tie as tie
 
 abbrev Inv-loop : tie.InvT-loop
-Inv-loop out₀ at n room₀ first₀ left₀ out room first left = (out ≡ out₀) × (first ≤ 20) × (left ≤ n) × Ending n left first room
+Inv-loop out₀ at n room₀ first₀ left₀ out room first left = (out ≡ out₀) × (first ≤ 20) × (left ≤ n) × Tail n left first room
 
 abbrev μ-loop : tie.MeasureT-loop
 μ-loop out₀ at n room₀ first₀ left₀ out room first left = left
 
 loop-holds : tie.Need-loop-holds Inv-loop μ-loop
-loop-holds c = (refl, omega arith, omega arith, ending-start _ _ refl)
+loop-holds c = (refl, omega arith, omega arith, tail-start _ _ refl)
 
 sub-first : tie.Need-sub-first Inv-loop μ-loop
-sub-first c = ending-some (c .loop .inv .3) (omega arith)
+sub-first c = tail-some (c .loop .inv .3) (omega arith)
 
 mul-room : tie.Need-mul-room Inv-loop μ-loop
 mul-room c = omega arith
@@ -54,7 +54,7 @@ returns : tie.Need-returns Inv-loop μ-loop
 returns c =
     let turn = c .before .before .before .before .before .before .before in
     rw (← turn .loop .inv .0)
-    (ending-last (turn .loop .inv .3) (turn .loop .first - 1) _ (omega (arith, sub-first turn)) (omega arith) (c .before .before .put-word .ensures) (omega arith) (omega arith))
+    (tail-last (turn .loop .inv .3) (turn .loop .first - 1) _ (omega (arith, sub-first turn)) (omega arith) (c .before .before .put-word .ensures) refl (omega arith) (omega arith))
 
 loop-less : tie.Need-loop-less Inv-loop μ-loop
 loop-less c = omega arith
@@ -62,7 +62,7 @@ loop-less c = omega arith
 loop-again : tie.Need-loop-again Inv-loop μ-loop
 loop-again c =
     let turn = c .before in
-    (turn .loop .inv .0, omega arith, omega arith, ending-next (turn .loop .inv .3) (turn .loop .first - 1) _ (omega (arith, sub-first turn)) (omega arith) (omega arith) (omega arith) (omega arith))
+    (turn .loop .inv .0, omega arith, omega arith, tail-next (turn .loop .inv .3) (turn .loop .first - 1) _ (omega (arith, sub-first turn)) (omega arith) refl (omega arith) (omega arith) (omega arith))
 
 pub put-decimal-spec : {M : Type 1} → statement M
 put-decimal-spec =
