@@ -196,24 +196,6 @@ position-few {ps} {hs} {ls} h n l =
 -- ---------------------------------------------------------------------------
 -- The arrays of a file
 
--- the cell of record k
-pub column-at : (end : ℕ) (part : Record → ℕ) (rs : List Record) (k : ℕ) → k < 254 → getD (column end part rs) (k + 2) 0 ≡ part (recordAt rs k)
-unfolding column
-column-at end part rs k l =
-    let at : k + 2 ≡ suc (suc k) = omega arith in
-    rw at (sequence-at (λ i. part (recordAt rs i)) 0 254 k 0 l ∙ rw zero-add)
-
--- the cells of the ends
-column-ends : (part : Record → ℕ) (rs : List Record) (n : ℕ) → n < 2 → _≡_ {A = ℕ} (getD (column 0 part rs) n 0) 0
-unfolding column
-column-ends part rs zero l = refl
-column-ends part rs (suc zero) l = refl
-column-ends part rs (suc (suc n)) l = absurd (omega arith)
-
-pub variable-at : (s : List ℕ) (p : ℕ) → p < variableCount s → getD (tableOf s .variables) p (chance 0 1) ≡ variableOf (wordAt s (1 + p))
-unfolding tableOf
-variable-at s p l = sequence-at (λ i. variableOf (wordAt s i)) 1 (variableCount s) p _ l
-
 module _ {s ps hs ls : List ℕ} (h : Held s ps hs ls) where
   held-end : endOf ps ≡ variableCount s
   unfolding endOf column
