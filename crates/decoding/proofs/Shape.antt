@@ -8,12 +8,13 @@ use mathlib.Core.Bool.{Bool, true, false, not, _&&_}
 use mathlib.Core.Logic.{by-cases}
 use mathlib.Core.Option.{none}
 use mathlib.Core.List.{List}
+use lib.ListN.{length}
 use lib.Dec.{eqb, ltb, leb}
 use borrow.Author.Tests.{ltb-true, leb-true, not-false}
 use Rattle.diagram.specs.Words.{wordAt, kind, fieldP, fieldQ, fieldR}
 use Rattle.diagram.specs.Table.{Record, recordAt, recordOf, tableOf, variableCount, recordCount, rootCount}
 use Rattle.diagram.specs.Checks.{placeZero, headingFault, recordFault, isHeading, isChild, isRecordWord, positionOf}
-use Rattle.diagram.proofs.Places.{sequence-at, sequence-past, none-at}
+use Rattle.diagram.proofs.Places.{sequence-length, sequence-at, sequence-past, none-at}
 use Rattle.diagram.proofs.Every.{both}
 use Rattle.diagram.proofs.Truth.{Formed}
 use Rattle.decoding.specs.Nodes.{Shaped}
@@ -53,6 +54,10 @@ heading-records s h = heading-ranges s h .1
 
 -- ---------------------------------------------------------------------------
 -- Records
+
+pub records-length : (s : List ℕ) → length (tableOf s .records) ≡ recordCount s
+unfolding tableOf
+records-length s = sequence-length (λ i. recordOf (wordAt s i)) (1 + variableCount s) (recordCount s)
 
 pub record-at-word : (s : List ℕ) (k : ℕ) → k < recordCount s → recordAt (tableOf s .records) k ≡ recordOf (wordAt s (1 + variableCount s + k))
 unfolding recordAt tableOf

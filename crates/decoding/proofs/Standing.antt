@@ -8,8 +8,8 @@ use mathlib.Core.List.{List, _∷_}
 use lib.ListN.{length, getD, take}
 use lib.Seq.{ext-getD}
 use Rattle.diagram.specs.Words.{wordAt}
-use Rattle.diagram.specs.Table.{Variable, Record, Root, Table, sequence, variableOf, recordOf, recordAt, variableCount, recordCount, choiceCount, tableOf, scale}
-use Rattle.diagram.proofs.Places.{sequence-length, sequence-at}
+use Rattle.diagram.specs.Table.{Variable, chance, Record, Root, Table, sequence, variableOf, recordOf, recordAt, variableCount, recordCount, choiceCount, tableOf, scale}
+use Rattle.diagram.proofs.Places.{sequence-length, sequence-at, sequence-past}
 use Rattle.decoding.specs.declared.table.Decoded.{Decoded}
 use Rattle.decoding.specs.Nodes.{column}
 use Rattle.decoding.specs.Decoding.{padTo, choicePositions, rootAt, rootNodes, rootRewards, variablesIn, recordsIn, rootsIn, tableIn, Held}
@@ -38,6 +38,27 @@ pub list-sequence : {A : Type 0} (l : List A) (d : A) → sequence (λ i. getD l
 list-sequence l d =
     let long = sequence-length (λ i. getD l i d) 0 (length l) in
     ext-getD d _ l long (λ i h. sequence-at (λ j. getD l j d) 0 (length l) i d (omega (arith, long)) ∙ rw zero-add refl)
+
+-- ---------------------------------------------------------------------------
+-- The table of a decoded one, part by part
+
+module _ (d : Decoded) where
+  pub variables-in : length (tableIn d .variables) ≡ d .variables
+  unfolding tableIn variablesIn
+  variables-in = sequence-length (λ x. variableOf (getD (d .words) x 0)) 0 (d .variables)
+
+  pub records-in : length (tableIn d .records) ≡ d .records
+  unfolding tableIn recordsIn
+  records-in = sequence-length _ 0 (d .records)
+
+  -- the variable at position x
+  pub variable-in : (x : ℕ) → x < d .variables → getD (tableIn d .variables) x (chance 0 1) ≡ variableOf (getD (d .words) x 0)
+  unfolding tableIn variablesIn
+  variable-in x h = sequence-at (λ y. variableOf (getD (d .words) y 0)) 0 (d .variables) x _ h ∙ rw zero-add
+
+  pub record-in-past : (k : ℕ) → d .records ≤ k → recordAt (tableIn d .records) k ≡ record { position = 0; hi = 0; lo = 0 }
+  unfolding tableIn recordsIn recordAt
+  record-in-past k h = sequence-past _ 0 (d .records) k _ h
 
 -- ---------------------------------------------------------------------------
 -- The parts of a file

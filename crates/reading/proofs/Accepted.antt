@@ -35,10 +35,6 @@ use Rattle.reading.proofs.Counting.{above}
 pub passed-variables : {s : List ℕ} → Passed s → (1 ≤ length (tableOf s .variables)) × (length (tableOf s .variables) ≤ 60)
 passed-variables {s} h = rw variables-length (heading-variables s (h .heading))
 
-pub records-length : (s : List ℕ) → length (tableOf s .records) ≡ recordCount s
-unfolding tableOf
-records-length s = sequence-length (λ i. recordOf (wordAt s i)) (1 + variableCount s) (recordCount s)
-
 pub passed-records : {s : List ℕ} → Passed s → (1 ≤ length (tableOf s .records)) × (length (tableOf s .records) ≤ 254)
 passed-records {s} h = rw records-length (heading-records s (h .heading))
 
