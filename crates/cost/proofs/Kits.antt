@@ -1,20 +1,14 @@
--- What a plan costs when a line of it is taken or left and when the kits stand in a longer list, and the kits that a file holds.
+-- What a plan costs when a line of it is taken or left and when the kits stand in a longer list.
 -- Assumes nothing.
-use Prim.Native.Nat.{ℕ, zero, suc, _+_, _-_, _<_}
-use native.Mathlib.Nat.{add-zero}
+use Prim.Native.Nat.{ℕ, zero, suc, _+_, _-_}
 use native.Mathlib.Omega.{arith}
-use mathlib.Core.Path.{_≡_, refl, ap, sym, _∙_}
+use mathlib.Core.Path.{_≡_, refl, sym, _∙_}
 use mathlib.Core.Bool.{true, false, false≢true}
-use mathlib.Core.Logic.{⊎-elim}
 use mathlib.Core.List.{List, [], _∷_, _++_}
-use lib.ListN.{length, getD, set, take, replicate}
-use lib.Dec.{eqb}
+use lib.ListN.{length, getD, set, take}
 use lib.Seq.{take-at}
-use borrow.Author.Tests.{eqb-true, eq-eqb}
-use Rattle.diagram.specs.Words.{wordAt, kind, fieldR}
-use Rattle.diagram.specs.Table.{sequence, variableOf, kitsOf, tableOf, variableCount, choiceCount}
+use borrow.Author.Tests.{eqb-true}
 use Rattle.diagram.specs.Plans.{costOf, isOpen}
-use Rattle.diagram.proofs.Every.{tested}
 
 -- ---------------------------------------------------------------------------
 -- What a plan costs

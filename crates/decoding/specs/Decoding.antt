@@ -74,3 +74,22 @@ pub record Held (d : Decoded) : Type 0 where
   pub low : d .low ≡ column 0 (λ (r : Record). r .lo) (tableIn d .records)
   pub nodes : d .nodes ≡ padTo 16 (rootNodes (tableIn d .roots))
   pub rewards : d .rewards ≡ padTo 16 (rootRewards (tableIn d .roots))
+
+-- The table of a file that is turned away: zeros everywhere
+unfoldable pub emptyTable : Decoded
+emptyTable =
+    record {
+      variables = 0;
+      records = 0;
+      choices = 0;
+      scale = 0;
+      words = replicate 64 0;
+      places = replicate 20 0;
+      kits = replicate 20 0;
+      positions = replicate 256 0;
+      high = replicate 256 0;
+      low = replicate 256 0;
+      roots = 0;
+      nodes = replicate 16 0;
+      rewards = replicate 16 0;
+    }

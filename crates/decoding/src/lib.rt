@@ -17,5 +17,6 @@ pub use roots::root_at;
 pub use roots::root_count;
 pub use table::Decoded;
 pub use table::decode;
+pub use table::empty;
 pub use variables::is_choice;
 pub use variables::is_choice_at;

@@ -12,7 +12,7 @@ ghost use Rattle.diagram.specs.Table as table;
 ghost use Rattle.diagram.specs.Table.{tableOf, choiceCount};
 ghost use Rattle.diagram.specs.Checks.{rootFault};
 ghost use Rattle.decoding.specs.Nodes.{Shaped};
-ghost use Rattle.decoding.specs.Decoding.{tableIn, Held};
+ghost use Rattle.decoding.specs.Decoding.{tableIn, Held, emptyTable};
 
 // A table by value: V, N, the number of choices and B; by position the variables' words; by choice number its position and kits; by
 // node number its position and its two children, the ends first; the number of roots, and by root its node and reward. Places that
@@ -65,5 +65,26 @@ pub fn decode(file: &[u8], scale: u64) -> Decoded
         roots: entries.count,
         nodes,
         rewards,
+    }
+}
+
+// The table that is handed out where a file is turned away.
+pub fn empty() -> Decoded
+    ensures { λ r. ⌜ r ≡ emptyTable ⌝ }
+{
+    Decoded {
+        variables: 0,
+        records: 0,
+        choices: 0,
+        scale: 0,
+        words: [0u32; 64],
+        places: [0u8; 20],
+        kits: [0u16; 20],
+        positions: [0u8; 256],
+        high: [0u8; 256],
+        low: [0u8; 256],
+        roots: 0,
+        nodes: [0u8; 16],
+        rewards: [0u64; 16],
     }
 }

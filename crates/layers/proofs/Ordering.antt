@@ -12,8 +12,8 @@ use Rattle.diagram.specs.Table.{Table, Record, sequence, recordAt}
 use Rattle.diagram.specs.Checks.{positionOf}
 use Rattle.diagram.proofs.Truth.{Formed}
 use Rattle.diagram.proofs.Locality.{position-less}
-use Rattle.implication.specs.Nodes.{column}
-use Rattle.implication.proofs.Pairing.{column-at}
+use Rattle.decoding.specs.Nodes.{column}
+use Rattle.decoding.proofs.Columns.{column-at}
 use Rattle.scoring.specs.Value.{place}
 use Rattle.scoring.specs.Passes.{over}
 use Rattle.scoring.proofs.Over.{over-sequence-at}

@@ -21,7 +21,7 @@ use Rattle.diagram.proofs.Truth.{Formed}
 use Rattle.diagram.proofs.Places.{sequence-at}
 use Rattle.diagram.proofs.FirstVariable.{Shares, scale-positive}
 use Rattle.diagram.proofs.Rising.{Monotone}
-use Rattle.reading.specs.Roots.{rootAt}
+use Rattle.decoding.specs.Decoding.{rootAt}
 use Rattle.scoring.specs.Value.{place, value, rootedSum, highWeight, lowWeight}
 use Rattle.scoring.specs.Passes.{byNode, Arcs}
 use Rattle.scoring.proofs.Values.{shares-drop, weights-scale, value-false, value-true, value-step, score-rooted, scale-rooted}

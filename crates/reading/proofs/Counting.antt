@@ -14,7 +14,7 @@ use Rattle.diagram.specs.Words.{wordAt, fieldQ, fieldR}
 use Rattle.diagram.specs.Table.{Variable, choice, chance, variableOf, isChoice, choiceCount, scaleOf, variableCount, tableOf}
 use Rattle.diagram.specs.Checks.{firstPlace}
 use Rattle.diagram.proofs.Places.{sequence-at, place-start, place-here, place-next, place-end}
-use Rattle.implication.proofs.Choosing.{is-choice-kind, variables-length}
+use Rattle.decoding.proofs.Choosing.{is-choice-kind, variables-length}
 use Rattle.reading.specs.Answer.{boundedBy}
 use Rattle.reading.specs.declared.answer.Bounded.the-variants.{Within}
 

@@ -1,5 +1,4 @@
 -- Laws for the proofs of this crate's functions.
 pub mod Counting
-pub mod Rooting
 pub mod Outcomes
 pub mod Accepted

@@ -1,5 +1,5 @@
 -- What a check's enum tells of the list of checks: where it finds nothing the list goes on, and where it finds a place the list stops. What reading answers
--- and what the arrays hold that are lent to it, after the checks 11 to 17, 26 and 27 and after all.
+-- after the checks 11 to 17, 26 and 27 and after all.
 -- Assumes nothing.
 use Prim.Native.Nat.{ℕ}
 use native.Mathlib.Omega.{arith}
@@ -7,22 +7,28 @@ use mathlib.Core.Path.{_≡_, refl, ap, sym, _∙_}
 use mathlib.Core.Option.{Option, none, some}
 use mathlib.Core.List.{List, [], _∷_}
 use lib.ListN.{take, drop}
-use Rattle.diagram.specs.Checks.{Check, monotoneFault, tableChecks}
-use Rattle.diagram.specs.Table.{Record, tableOf, variableCount, recordCount, choiceCount, scale}
-use Rattle.diagram.specs.Services.{Outcome, refused, answered, checked, written, reading, readOutcome, Reading}
+use Rattle.diagram.specs.Checks.{Check, headingFault, choiceFault, recordFault, rootFault, monotoneFault, tableChecks}
+use Rattle.diagram.specs.Table.{tableOf, variableCount, recordCount, choiceCount, scale}
+use Rattle.diagram.specs.Services.{Outcome, refused, answered, checked, reading, readOutcome, Reading}
 use Rattle.diagram.proofs.Checked.{checked-passes, checked-stops, checked-end, checked-append, checked-answered, checked-refused, answered-not-refused, first-passed, Passed, read-passed, read-reading}
 use Rattle.diagram.specs.declared.refusal.Refusal.{Refusal}
+use Rattle.decoding.specs.declared.table.Decoded.{Decoded}
+use Rattle.decoding.specs.Nodes.{Shaped}
+use Rattle.decoding.specs.Decoding.{tableIn, Held, emptyTable}
+use Rattle.decoding.proofs.Choosing.{variables-length}
+use Rattle.decoding.proofs.Shape.{heading-variables, heading-records, records-length, shaped-formed}
+use Rattle.decoding.proofs.Standing.{variables-in, records-in}
+use Rattle.implication.specs.Nodes.{Checkable}
 use Rattle.implication.specs.declared.answer.Fault.{Fault}
 use Rattle.implication.specs.declared.answer.Fault.the-variants.{At, Nowhere}
 use Rattle.implication.specs.Answer.{faultOf}
-use Rattle.implication.specs.Nodes.{column, Shaped}
 use Rattle.reading.specs.declared.answer.Summary.{Summary}
 use Rattle.reading.specs.declared.answer.ReadAnswer.{ReadAnswer}
 use Rattle.reading.specs.declared.answer.ReadAnswer.the-variants.{Refused}
+use Rattle.reading.specs.declared.answer.TableAnswer.{TableAnswer}
 use Rattle.reading.specs.declared.answer.Bounded.{Bounded}
 use Rattle.reading.specs.declared.answer.Bounded.the-variants.{Within, Above}
-use Rattle.reading.specs.Answer.{outcomeOf, shapeOutcome, boundedBy}
-use Rattle.reading.specs.Nodes.{columnOr}
+use Rattle.reading.specs.Answer.{outcomeOf, Reads, shapeOutcome, boundedBy}
 
 -- ---------------------------------------------------------------------------
 -- The enums
@@ -92,6 +98,13 @@ module _ {o : Outcome Reading} {r : ReadAnswer} (promise : outcomeOf r ≡ o) wh
 -- ---------------------------------------------------------------------------
 -- Reading after the checks 11 to 17, 26 and 27
 
+-- The checks 12, 15, 17 and 26 have found nothing
+pub record Shown (s : List ℕ) : Type 0 where
+  pub heading : headingFault s ≡ none
+  pub choices : choiceFault s ≡ none
+  pub records : recordFault s ≡ none
+  pub roots : rootFault s ≡ none
+
 module _ (s : List ℕ) where
   -- a file that they refuse is refused
   pub shape-refuses : (n i : ℕ) → shapeOutcome s ≡ refused n i → readOutcome s ≡ refused n i
@@ -114,35 +127,23 @@ module _ (s : List ℕ) where
     past-18 q =
         sym e ∙ checked-answered s (take 9 tableChecks) reading a _ e ∙ sym (check-18 ∙ goes-on _ [] s q ∙ checked-end _ s)
 
-    -- the checks 12 and 17 of a file that they let through
-    pub shape-shaped : Shaped s
+    -- what they have shown of a file that they let through
+    pub shape-shown : Shown s
     unfolding shapeOutcome tableChecks
-    shape-shaped =
+    shape-shown =
         let c12 = first-passed _ _ s a (first-passed _ _ s a e .1) in
         let c13 = first-passed _ _ s a (c12 .1) in
-        let c16 = first-passed _ _ s a (first-passed _ _ s a (first-passed _ _ s a (c13 .1) .1) .1) in
-        let c17 = first-passed _ _ s a (c16 .1) in
-        record { heading = c12 .0; records = c17 .0 }
+        let c15 = first-passed _ _ s a (first-passed _ _ s a (c13 .1) .1) in
+        let c17 = first-passed _ _ s a (first-passed _ _ s a (c15 .1) .1) in
+        let c26 = first-passed _ _ s a (c17 .1) in
+        record { heading = c12 .0; choices = c15 .0; records = c17 .0; roots = c26 .0 }
 
--- ---------------------------------------------------------------------------
--- The arrays that are lent to reading
-
-module _ (s : List ℕ) (end : ℕ) (part : Record → ℕ) (held : List ℕ) where
-  pub column-kept : (n i : ℕ) → shapeOutcome s ≡ refused n i → held ≡ columnOr s end part held
-  unfolding columnOr written
-  column-kept n i e = rw e refl
-
-  pub column-new : (a : Reading) → shapeOutcome s ≡ answered a → column end part (tableOf s .records) ≡ columnOr s end part held
-  unfolding columnOr written
-  column-new a e = rw e refl
-
-  -- an accepted file's records are in the arrays
-  pub column-read : (a : Reading) → readOutcome s ≡ answered a → columnOr s end part held ≡ column end part (tableOf s .records)
-  column-read a e = go (shapeOutcome s) refl
-    where
-      go : (o : Outcome Reading) → shapeOutcome s ≡ o → columnOr s end part held ≡ column end part (tableOf s .records)
-      go (answered b) q = sym (column-new b q)
-      go (refused n i) q = absurd (answered-not-refused a n i (sym e ∙ shape-refuses s n i q))
+    -- the numbers are the table's
+    pub shape-reading : a ≡ reading s
+    unfolding shapeOutcome
+    shape-reading =
+        let q : answered a ≡ answered (reading s) = sym e ∙ checked-answered s (take 9 tableChecks) reading a (λ file. answered (reading file)) e in
+        cc
 
 -- ---------------------------------------------------------------------------
 -- What the answer of `read` tells its callers
@@ -160,3 +161,43 @@ module _ (s : List ℕ) {r : ReadAnswer} (promise : outcomeOf r ≡ readOutcome 
   pub table-choices : (t : Summary) → r ≡ ReadAnswer.Table t → t .choices ≡ choiceCount (tableOf s .variables)
   unfolding reading
   table-choices t e = ap (λ (x : Reading). x .choices) (read-reading s _ (table-as promise t e))
+
+-- ---------------------------------------------------------------------------
+-- What `read_table` hands out
+
+module _ (s : List ℕ) where
+  pub reads-refused : {r : TableAnswer} (x : Refusal) → r ≡ record { answer = Refused x; table = emptyTable } → refused (x .number) (x .place) ≡ readOutcome s → Reads s r
+  unfolding outcomeOf
+  reads-refused {r} x e q =
+      rw e
+      (record {
+        outcome = q;
+        accepted = λ t f. let z : _≡_ {A = ℕ} 0 1 = cc in absurd (omega arith);
+        refused = λ y f. refl;
+      })
+
+  module _ (d : Decoded) (stands : tableIn d ≡ tableOf s) (held : Held d) where
+    pub reads-accepted : (t : Summary) → answered (numbers t) ≡ readOutcome s → Reads s (record { answer = ReadAnswer.Table t; table = d })
+    unfolding outcomeOf
+    reads-accepted t q =
+        record {
+          outcome = q;
+          accepted = λ u f. (stands, held);
+          refused = λ y f. let z : _≡_ {A = ℕ} 0 1 = cc in absurd (omega arith);
+        }
+
+    pub variables-decoded : d .variables ≡ variableCount s
+    variables-decoded = sym (variables-in d) ∙ rw stands (variables-length s)
+
+    pub records-decoded : d .records ≡ recordCount s
+    records-decoded = sym (records-in d) ∙ rw stands (records-length s)
+
+    -- check 18 can be made
+    pub shown-checkable : Shown s → Checkable d
+    shown-checkable h =
+        record {
+          held = held;
+          formed = rw (stands, variables-decoded) (shaped-formed s (record { heading = h .heading; records = h .records }));
+          few = omega (arith, variables-decoded, heading-variables s (h .heading));
+          most = omega (arith, records-decoded, heading-records s (h .heading));
+        }

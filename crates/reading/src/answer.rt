@@ -1,4 +1,5 @@
 // What reading answers, and what its checks answer.
+use decoding::Decoded;
 use diagram::Refusal;
 
 // V, N, the number of choices and B of a table.
@@ -13,6 +14,12 @@ pub struct Summary {
 pub enum ReadAnswer {
     Table(Summary),
     Refused(Refusal),
+}
+
+// What reading answers, and the table decoded; it is the empty one where the file is turned away.
+pub struct TableAnswer {
+    pub answer: ReadAnswer,
+    pub table: Decoded,
 }
 
 // A number within its limit, or the place of the refusal where it is above.

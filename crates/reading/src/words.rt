@@ -5,21 +5,12 @@ use diagram::field_r;
 use diagram::kind;
 use diagram::word_at;
 use implication::Fault;
-use implication::record_count;
-use implication::variable_count;
+use decoding::record_count;
+use decoding::root_word_count;
+use decoding::variable_count;
 ghost use mathlib.Core.Path.{_≡_};
-ghost use Prim.Native.Nat.{_<_};
-ghost use Rattle.diagram.specs.Table.{rootCount};
 ghost use Rattle.diagram.specs.Checks.{lengthFault, isHeading, headingFault, countFault};
 ghost use Rattle.implication.specs.Answer.{faultOf};
-
-// The number of root words: R of the heading.
-pub fn root_word_count(file: &[u8]) -> usize
-    ensures count { λ r. ⌜ r ≡ rootCount (now (file .entry)) ⌝ }
-    ensures small { λ r. ⌜ r < 2048 ⌝ }
-{
-    field_r(word_at(file, 0)) as usize
-}
 
 // Check 11.
 pub fn length_fault(file: &[u8]) -> Fault

@@ -8,8 +8,8 @@ use lib.Dec.{eqb}
 use Rattle.diagram.specs.Table.{Variable, Table, Record, chance, sequence, tableOf, variableCount, isChoice, choiceCount, scaleOf, scale}
 use Rattle.diagram.proofs.Truth.{Formed}
 use Rattle.diagram.proofs.FirstVariable.{Shares}
-use Rattle.implication.specs.Nodes.{column}
-use Rattle.reading.specs.Roots.{rootAt}
+use Rattle.decoding.specs.Nodes.{column}
+use Rattle.decoding.specs.Decoding.{rootAt}
 use Rattle.scoring.specs.declared.roots.Roots.{Roots}
 use Rattle.scoring.specs.Value.{place, marksFrom, gap, highShare, lowShare, highArc, lowArc}
 

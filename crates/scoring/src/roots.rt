@@ -10,7 +10,7 @@ ghost use Prim.Native.Nat.{_/_, _≤_, _<_, _^_};
 ghost use lib.ListN.{getD};
 ghost use Rattle.diagram.specs.Table.{Record, tableOf, variableCount};
 ghost use Rattle.diagram.proofs.Checked.{Passed};
-ghost use Rattle.implication.specs.Nodes.{column};
+ghost use Rattle.decoding.specs.Nodes.{column};
 ghost use Rattle.scoring.specs.Passes as passes;
 ghost use Rattle.scoring.specs.Passes.{RootsHeld, rootSum};
 

@@ -22,7 +22,7 @@ use Rattle.diagram.proofs.Places.{sequence-length, sequence-at}
 use Rattle.diagram.proofs.Locality.{position-less}
 use Rattle.diagram.proofs.FirstVariable.{scale-positive}
 use Rattle.diagram.proofs.Rising.{Monotone}
-use Rattle.implication.proofs.Pairing.{column-at}
+use Rattle.decoding.proofs.Columns.{column-at}
 use Rattle.scoring.specs.declared.roots.Roots.{Roots}
 use Rattle.scoring.specs.Value.{place, value, rootedSum, variableAt, markAt, highWeight, lowWeight}
 use Rattle.scoring.specs.Passes.{over, byNode, RootsHeld, highInForce, lowInForce, markAtNode, Arcs, passUp, Fits, Marked}

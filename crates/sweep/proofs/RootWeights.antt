@@ -15,8 +15,8 @@ use lib.Seq.{take-all, getD-set-same, getD-set-other}
 use borrow.Author.Tests.{eq-eqb, ne-eqb}
 use Rattle.diagram.specs.Table.{Table}
 use Rattle.diagram.specs.Score.{rewarded}
-use Rattle.reading.specs.Roots.{rootAt}
-use Rattle.reading.proofs.Rooting.{rewarded-next, rewarded-part}
+use Rattle.decoding.specs.Decoding.{rootAt}
+use Rattle.decoding.proofs.Rooting.{rewarded-next, rewarded-part}
 use Rattle.scoring.specs.declared.roots.Roots.{Roots}
 use Rattle.scoring.specs.Value.{place, gap, rootedSum}
 use Rattle.scoring.specs.Passes.{RootsHeld}

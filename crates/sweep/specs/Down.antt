@@ -6,7 +6,7 @@ use mathlib.Core.List.{List}
 use lib.ListN.{length, getD, set}
 use lib.Dec.{eqb}
 use Rattle.diagram.specs.Table.{Table}
-use Rattle.reading.specs.Roots.{rootAt}
+use Rattle.decoding.specs.Decoding.{rootAt}
 use Rattle.scoring.specs.declared.roots.Roots.{Roots}
 use Rattle.scoring.specs.Value.{place, gap}
 use Rattle.scoring.specs.Passes.{Arcs}

@@ -12,7 +12,7 @@ use Rattle.reading.proofs.Accepted.{passed-scale, passed-choices}
 use Rattle.scoring.proofs.Requests.{decoded-read}
 use Rattle.sweep.specs.Request.{requestOutcome}
 use Rattle.sweep.proofs.Requesting.{Proper, refused-request, accepted-request, accepted-proper, accepted-scale}
-use Rattle.cost.proofs.Kits.{kits-length, kits-first}
+use Rattle.decoding.proofs.Kits.{kits-length, kits-first}
 use Rattle.search.specs.State.{Explored}
 use Rattle.search.proofs.Priced.{priced-own}
 use Rattle.search.proofs.Answering.{search-turned, search-32, held-long, search-found}

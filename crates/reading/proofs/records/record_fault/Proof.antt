@@ -11,11 +11,11 @@ use Rattle.diagram.specs.Table.{Record, recordAt, recordOf, tableOf, variableCo
 use Rattle.diagram.specs.Checks.{recordFault, firstPlace, isRecordWord}
 use Rattle.diagram.proofs.Places.{place-start, place-here, place-next, place-end}
 use Rattle.implication.specs.Answer.{faultOf}
-use Rattle.implication.specs.Nodes.{Placed}
+use Rattle.decoding.specs.Nodes.{Placed}
 use Rattle.implication.specs.declared.answer.Fault.the-variants.{At}
-use Rattle.implication.proofs.Shape.{heading-records, record-at-word, record-at-fault, record-test}
-use Rattle.implication.specs.Nodes.{Filled}
-use Rattle.implication.proofs.Columns.{fill-alike, fill-next, filled-placed}
+use Rattle.decoding.proofs.Shape.{heading-records, record-at-word, record-at-fault, record-test}
+use Rattle.decoding.specs.Nodes.{Filled}
+use Rattle.decoding.proofs.Columns.{fill-alike, fill-next, filled-placed}
 use Rattle.reading.proofs.records.record_fault.Statement.{statement}
 use Rattle.reading.proofs.records.record_fault.Tie as tie
 
