@@ -1,8 +1,8 @@
 // The weights of the arcs during a search, the cells that they start from, and what leaving a line loses at each of its nodes.
 use diagram::Node;
 use diagram::Plan;
-use reading::child_of;
-use reading::position_of;
+use decoding::child_of;
+use decoding::position_of;
 use scoring::Roots;
 use scoring::high_weight;
 use scoring::mark_at;

@@ -6,27 +6,29 @@ use mathlib.Core.Option.{none, some}
 use mathlib.Core.List.{List, []}
 use lib.ListN.{length}
 use borrow.Author.Tests.{eq-eqb, ne-eqb}
-use Rattle.diagram.specs.Table.{Record, tableOf, variableCount, choiceCount}
+use Rattle.diagram.specs.Table.{tableOf, variableCount, choiceCount}
 use Rattle.diagram.specs.Score.{score}
 use Rattle.diagram.specs.Plans.{upperBound}
 use Rattle.diagram.specs.Checks.{placeZero, planLengthFault, fullPlanFault, scoreChecks}
 use Rattle.diagram.specs.Services.{refused, answered, Reading, reading, readOutcome, scoreOutcome}
 use Rattle.diagram.proofs.Checked.{checked-passes, checked-stops, checked-end, read-refuses, read-answers}
-use Rattle.reading.specs.Nodes.{columnOr}
-use Rattle.reading.proofs.Outcomes.{column-read}
+use Rattle.decoding.specs.declared.table.Decoded as read
+use Rattle.decoding.specs.Decoding.{tableIn, Held}
+use Rattle.reading.proofs.Outcomes.{variables-decoded}
 use Rattle.scoring.specs.Passes.{Decoded}
 use Rattle.scoring.proofs.FullPlans.{full-closed, openTaken-same}
 
 -- ---------------------------------------------------------------------------
 -- The records
 
--- the arrays that were lent to reading hold the records of a file that it answers
-pub decoded-read : {s ps hs ls : List ℕ} (ps₀ hs₀ ls₀ : List ℕ) {a : Reading} → readOutcome s ≡ answered a → (ps ≡ columnOr s (variableCount s) (λ (r : Record). r .position) ps₀) × ((hs ≡ columnOr s 0 (λ (r : Record). r .hi) hs₀) × (ls ≡ columnOr s 0 (λ (r : Record). r .lo) ls₀)) → Decoded s ps hs ls
-decoded-read ps₀ hs₀ ls₀ e lent =
+-- the arrays of an accepted file's table hold its records
+pub decoded-read : {s : List ℕ} {d : read.Decoded} → tableIn d ≡ tableOf s → Held d → Decoded s (d .positions) (d .high) (d .low)
+decoded-read {s} {d} stands held =
+    let v : d .variables ≡ variableCount s = variables-decoded s d stands held in
     record {
-      positions = lent .0 ∙ column-read _ _ _ _ _ e;
-      high = lent .1 .0 ∙ column-read _ _ _ _ _ e;
-      low = lent .1 .1 ∙ column-read _ _ _ _ _ e;
+      positions = rw (stands, v) at (held .positions);
+      high = rw stands at (held .high);
+      low = rw stands at (held .low);
     }
 
 -- ---------------------------------------------------------------------------

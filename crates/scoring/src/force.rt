@@ -2,9 +2,9 @@
 use diagram::Node;
 use diagram::Plan;
 use diagram::Position;
-use reading::is_choice;
-use reading::position_of;
-use reading::variable_count;
+use decoding::is_choice;
+use decoding::position_of;
+use decoding::variable_count;
 ghost use mathlib.Core.Path.{_≡_};
 ghost use Prim.Native.Nat.{ℕ, _≤_, _<_, _+_};
 ghost use lib.ListN.{length, getD};

@@ -24,7 +24,7 @@ pub use pass::pass_up;
 pub use plans::mark_fault;
 use reading::Fault;
 use reading::ReadAnswer;
-use reading::read_records;
+use reading::read_table;
 pub use roots::Roots;
 pub use roots::root_sum;
 ghost use mathlib.Core.Path.{_≡_};
@@ -35,20 +35,20 @@ ghost use Rattle.scoring.specs.Answer.{outcomeOf};
 pub fn score(file: &[u8], plan: &[u8]) -> ScoreAnswer
     ensures { λ r. ⌜ outcomeOf r ≡ scoreOutcome (now (file .entry)) (now (plan .entry)) ⌝ }
 {
-    let mut positions = [0u8; 256];
-    let mut high = [0u8; 256];
-    let mut low = [0u8; 256];
-    let t = match read_records(file, &mut positions, &mut high, &mut low) {
-        ReadAnswer::Table(t) => t,
+    let found = read_table(file);
+    let answer = found.answer;
+    let numbers = match answer {
+        ReadAnswer::Table(numbers) => numbers,
         ReadAnswer::Refused(r) => return ScoreAnswer::Refused(r),
     };
-    if plan.len() != t.choices {
+    if plan.len() != numbers.choices {
         return refuse(21, 0);
     }
     if let Fault::At(place) = plans::full_plan_fault(plan) {
         return refuse(22, place);
     }
-    ScoreAnswer::Score(upper_bound(file, plan, &positions, &high, &low))
+    let t = found.table;
+    ScoreAnswer::Score(upper_bound(file, plan, &t.positions, &t.high, &t.low))
 }
 
 fn refuse(number: u8, place: usize) -> ScoreAnswer

@@ -2,9 +2,9 @@
 use crate::bound::value_of;
 use diagram::Node;
 use diagram::Position;
-use reading::position_of;
-use reading::root_at;
-use reading::root_count;
+use decoding::position_of;
+use decoding::root_at;
+use decoding::root_count;
 ghost use mathlib.Core.Path.{_≡_};
 ghost use Prim.Native.Nat.{_/_, _≤_, _<_, _^_};
 ghost use lib.ListN.{getD};

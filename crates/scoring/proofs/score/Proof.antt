@@ -17,27 +17,27 @@ use Rattle.scoring.proofs.score.Statement.{statement}
 use Rattle.scoring.proofs.score.Tie as tie
 
 -- what is known of the file once reading has answered
-file-read : (c : tie.After-known-told) → readOutcome (c .before .before .before .before .before .before .before .before .before .args .file .now) ≡ answered (reading (c .before .before .before .before .before .before .before .before .before .args .file .now))
-file-read c = table-read _ (c .before .before .before .read-records .ensures .0) _ (c .before .t .given .1)
+file-read : (c : tie.After-known-told) → readOutcome (c .before .before .before .before .before .before .args .file .now) ≡ answered (reading (c .before .before .before .before .before .before .args .file .now))
+file-read c = table-read _ (c .before .before .before .read-table .ensures .outcome) _ (c .before .answer .given .1)
 
-file-passed : (c : tie.After-known-told) → Passed (c .before .before .before .before .before .before .before .before .before .args .file .now)
-file-passed c = table-passed _ (c .before .before .before .read-records .ensures .0) _ (c .before .t .given .1)
+file-passed : (c : tie.After-known-told) → Passed (c .before .before .before .before .before .before .args .file .now)
+file-passed c = table-passed _ (c .before .before .before .read-table .ensures .outcome) _ (c .before .answer .given .1)
 
-file-choices : (c : tie.After-known-told) → c .before .t .given .0 .0 .choices ≡ choiceCount (tableOf (c .before .before .before .before .before .before .before .before .before .args .file .now) .variables)
-file-choices c = table-choices _ (c .before .before .before .read-records .ensures .0) _ (c .before .t .given .1)
+file-choices : (c : tie.After-known-told) → c .before .answer .given .0 .0 .choices ≡ choiceCount (tableOf (c .before .before .before .before .before .before .args .file .now) .variables)
+file-choices c = table-choices _ (c .before .before .before .read-table .ensures .outcome) _ (c .before .answer .given .1)
 
-read-records-requires : tie.Need-read-records-requires
-read-records-requires c κs = search needs
+read-table-requires : tie.Need-read-table-requires
+read-table-requires c κs = search needs
 
-enum-known-t : tie.Need-enum-known-t
-enum-known-t c = search needs
+enum-known-answer : tie.Need-enum-known-answer
+enum-known-answer c = search needs
 
-enum-known-r : tie.Need-enum-known-r
-enum-known-r c = search needs
+enum-known-answer-2 : tie.Need-enum-known-answer-2
+enum-known-answer-2 c = search needs
 
 returns : tie.Need-returns
 unfolding outcomeOf
-returns c = score-refused _ _ _ _ (refused-read _ (c .before .before .before .read-records .ensures .0) _ (c .before .r .given .1))
+returns c = score-refused _ _ _ _ (refused-read _ (c .before .before .before .read-table .ensures .outcome) _ (c .before .answer2 .given .1))
 
 refuse-requires : tie.Need-refuse-requires
 refuse-requires c κs = search needs
@@ -63,27 +63,28 @@ enum-told : tie.Need-enum-told
 enum-told c = search needs
 
 -- the plan is as long as it has to be, and full
-plan-long : (c : tie.After-enum-told) → length (c .before .before .before .before .before .before .before .before .before .before .before .before .before .before .args .plan .now) ≡ choiceCount (tableOf (c .before .before .before .before .before .before .before .before .before .before .before .before .before .before .args .file .now) .variables)
+plan-long : (c : tie.After-enum-told) → length (c .before .before .before .before .before .before .before .before .before .before .before .args .plan .now) ≡ choiceCount (tableOf (c .before .before .before .before .before .before .before .before .before .before .before .args .file .now) .variables)
 plan-long c = c .before .before .before .if1 .left ∙ file-choices (c .before .before .before .before .before)
 
-plan-full : (c : tie.After-enum-told) → fullPlanFault (c .before .before .before .before .before .before .before .before .before .before .before .before .before .before .args .plan .now) [] ≡ none
+plan-full : (c : tie.After-enum-told) → fullPlanFault (c .before .before .before .before .before .before .before .before .before .before .before .args .plan .now) [] ≡ none
 plan-full c = fault-none _ (c .before .before .full-plan-fault .ensures) (c .enum-told .given .1)
 
 upper-bound-requires : tie.Need-upper-bound-requires
 upper-bound-requires c κs =
-    (file-passed (c .before .before .before .before .before .before .before .before), ((plan-long (c .before .before .before), full-legal _ [] (plan-full (c .before .before .before))), decoded-read _ _ _ (file-read (c .before .before .before .before .before .before .before .before)) (c .before .before .before .before .before .before .before .before .before .before .before .read-records .ensures .1)))
+    let table = c .before .before .before .before .before .before .before .before .before .before .before .before .before .read-table .ensures .accepted _ (c .before .before .before .before .before .before .before .before .before .before .before .answer .given .1) in
+    (file-passed (c .before .before .before .before .before .before .before .before .before .before), ((plan-long (c .before .before .before .before .before), full-legal _ [] (plan-full (c .before .before .before .before .before))), decoded-read (table .0) (table .1)))
 
 returns-4 : tie.Need-returns-4
 unfolding outcomeOf
-returns-4 c = score-answered _ _ (file-read (c .before .before .before .before .before .before .before .before .before)) (plan-long (c .before .before .before .before)) (plan-full (c .before .before .before .before)) _ (c .upper-bound .ensures)
+returns-4 c = score-answered _ _ (file-read (c .before .before .before .before .before .before .before .before .before .before .before)) (plan-long (c .before .before .before .before .before .before)) (plan-full (c .before .before .before .before .before .before)) _ (c .upper-bound .ensures)
 
 pub score-spec : {M : Type 1} → statement M
 score-spec =
     tie.close
     (tie.spec
-    read-records-requires
-    enum-known-t
-    enum-known-r
+    read-table-requires
+    enum-known-answer
+    enum-known-answer-2
     returns
     refuse-requires
     returns-2
