@@ -1,11 +1,9 @@
 // Check 18 over arrays that hold a table's records, and what it reads of a file.
-mod answer;
 mod monotone;
 mod nodes;
 mod variables;
 mod words;
 
-pub use answer::Fault;
 pub use monotone::monotone_fault;
 pub use nodes::child_of;
 pub use nodes::decode;

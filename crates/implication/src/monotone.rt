@@ -4,7 +4,6 @@
 // or have been met, until the stack is empty, and a record is at fault where the pair of true and false is met. A pair leads to
 // pairs at later positions, so that the stack has at most two pairs more than the table has variables. The pairs met are bits of
 // an array, 256 for each first node.
-use crate::answer::Fault;
 use crate::nodes::child_of;
 use crate::nodes::position_of;
 use crate::variables::is_choice;
@@ -12,13 +11,14 @@ use crate::words::record_count;
 use crate::words::variable_count;
 use diagram::Node;
 use diagram::Position;
+use steps::Fault;
 ghost use mathlib.Core.Path.{_≡_};
 ghost use Prim.Native.Nat.{ℕ, suc, _+_, _-_, _<_};
 ghost use lib.ListN.{length, set};
 ghost use lib.Dec.{eqb};
 ghost use Rattle.diagram.specs.Table.{recordCount};
 ghost use Rattle.diagram.specs.Checks.{monotoneFault};
-ghost use Rattle.implication.specs.Answer.{faultOf};
+ghost use Rattle.steps.specs.Steps.{faultOf};
 ghost use Rattle.implication.specs.Nodes.{Held, next, isKnown, cell, zeros, Marked, Room, Stack, Explored};
 
 // Check 18. The arrays hold the records of a file that the checks before let through.

@@ -3,3 +3,4 @@ pub mod Counting
 pub mod Rooting
 pub mod Outcomes
 pub mod Accepted
+pub mod Shaping

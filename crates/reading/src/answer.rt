@@ -1,4 +1,4 @@
-// What reading answers, and what its checks answer.
+// What reading answers.
 use diagram::Refusal;
 
 // V, N, the number of choices and B of a table.
@@ -13,10 +13,4 @@ pub struct Summary {
 pub enum ReadAnswer {
     Table(Summary),
     Refused(Refusal),
-}
-
-// A number within its limit, or the place of the refusal where it is above.
-pub enum Bounded {
-    Within(u64),
-    Above(usize),
 }

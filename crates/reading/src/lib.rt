@@ -2,14 +2,13 @@
 mod answer;
 mod records;
 mod roots;
+mod shape;
 mod variables;
 mod words;
 
-use answer::Bounded;
 pub use answer::ReadAnswer;
 pub use answer::Summary;
 use diagram::Refusal;
-pub use implication::Fault;
 pub use implication::child_of;
 use implication::decode;
 pub use implication::is_choice;
@@ -20,11 +19,13 @@ pub use implication::variable_count;
 pub use roots::Root;
 pub use roots::root_at;
 pub use roots::root_count;
+use shape::read_shape;
+use steps::Fault;
 ghost use mathlib.Core.Path.{_≡_};
 ghost use lib.ListN.{length};
 ghost use Rattle.diagram.specs.Table.{Record, variableCount};
 ghost use Rattle.diagram.specs.Services.{readOutcome};
-ghost use Rattle.reading.specs.Answer.{outcomeOf, shapeOutcome};
+ghost use Rattle.reading.specs.Answer.{outcomeOf};
 ghost use Rattle.reading.specs.Nodes.{columnOr};
 
 // Reads a table: V, N, the number of choices and B, or the first reason in the papers' order for turning the file away.
@@ -60,48 +61,6 @@ pub fn read_records(
         return refuse(18, place);
     }
     ReadAnswer::Table(t)
-}
-
-// The checks 11 to 17, 26 and 27, which come before the records are copied, and the table's numbers.
-fn read_shape(file: &[u8]) -> ReadAnswer
-    ensures { λ r. ⌜ outcomeOf r ≡ shapeOutcome (now (file .entry)) ⌝ }
-{
-    if let Fault::At(place) = words::length_fault(file) {
-        return refuse(11, place);
-    }
-    if let Fault::At(place) = words::heading_fault(file) {
-        return refuse(12, place);
-    }
-    if let Fault::At(place) = words::count_fault(file) {
-        return refuse(13, place);
-    }
-    if let Fault::At(place) = variables::variable_fault(file) {
-        return refuse(14, place);
-    }
-    let choices = match variables::choices(file) {
-        Bounded::Within(choices) => choices,
-        Bounded::Above(place) => return refuse(15, place),
-    };
-    let product = match variables::product(file) {
-        Bounded::Within(product) => product,
-        Bounded::Above(place) => return refuse(16, place),
-    };
-    if let Fault::At(place) = records::record_fault(file) {
-        return refuse(17, place);
-    }
-    if let Fault::At(place) = roots::root_fault(file) {
-        return refuse(26, place);
-    }
-    let scale = match roots::scale(file, product) {
-        Bounded::Within(scale) => scale,
-        Bounded::Above(place) => return refuse(27, place),
-    };
-    ReadAnswer::Table(Summary {
-        variables: variable_count(file) as usize,
-        records: record_count(file),
-        choices: choices as usize,
-        scale,
-    })
 }
 
 fn refuse(number: u8, place: usize) -> ReadAnswer

@@ -4,14 +4,14 @@ use diagram::field_q;
 use diagram::field_r;
 use diagram::kind;
 use diagram::word_at;
-use implication::Fault;
 use implication::record_count;
 use implication::variable_count;
+use steps::Fault;
 ghost use mathlib.Core.Path.{_≡_};
 ghost use Prim.Native.Nat.{_<_};
 ghost use Rattle.diagram.specs.Table.{rootCount};
 ghost use Rattle.diagram.specs.Checks.{lengthFault, isHeading, headingFault, countFault};
-ghost use Rattle.implication.specs.Answer.{faultOf};
+ghost use Rattle.steps.specs.Steps.{faultOf};
 
 // The number of root words: R of the heading.
 pub fn root_word_count(file: &[u8]) -> usize

@@ -4,7 +4,8 @@ use mathlib.Core.Path.{_≡_, sym, _∙_}
 use Rattle.diagram.specs.Services.{answered}
 use Rattle.reading.specs.Answer.{outcomeOf, shapeOutcome}
 use Rattle.implication.specs.Nodes.{Held}
-use Rattle.reading.proofs.Outcomes.{fault-none, fault-some, numbers, refused-as, table-as, shape-refuses, shape-shaped, stops-18, past-18, column-kept, column-new}
+use Rattle.steps.proofs.Stepping.{fault-none, fault-some}
+use Rattle.reading.proofs.Outcomes.{numbers, refused-as, table-as, shape-refuses, shape-shaped, stops-18, past-18, column-kept, column-new}
 use borrow.Author.Needs.{needs}
 use Rattle.reading.proofs.read_records.Statement.{statement}
 use Rattle.reading.proofs.read_records.Tie as tie

@@ -10,9 +10,9 @@ use Rattle.diagram.specs.Words.{wordAt}
 use Rattle.diagram.specs.Table.{Record, recordAt, recordOf, tableOf, variableCount, recordCount}
 use Rattle.diagram.specs.Checks.{recordFault, firstPlace, isRecordWord}
 use Rattle.diagram.proofs.Places.{place-start, place-here, place-next, place-end}
-use Rattle.implication.specs.Answer.{faultOf}
+use Rattle.steps.specs.Steps.{faultOf}
 use Rattle.implication.specs.Nodes.{Placed}
-use Rattle.implication.specs.declared.answer.Fault.the-variants.{At}
+use Rattle.steps.specs.declared.verdict.Fault.the-variants.{At}
 use Rattle.implication.proofs.Shape.{heading-records, record-at-word, record-at-fault, record-test}
 use Rattle.implication.specs.Nodes.{Filled}
 use Rattle.implication.proofs.Columns.{fill-alike, fill-next, filled-placed}
