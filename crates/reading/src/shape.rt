@@ -37,10 +37,11 @@ pub fn read_shape(file: &[u8]) -> ReadAnswer
     let found = check_records(found, file);
     let scale = check_reward(found, file, product.value);
     let found = scale.found;
+    let variables = variable_count(file) as usize;
     answer(
         found,
         Summary {
-            variables: variable_count(file) as usize,
+            variables,
             records: record_count(file),
             choices: choices.value as usize,
             scale: scale.value,

@@ -23,7 +23,10 @@ and-then-requires-3 : tie.Need-and-then-requires-3
 and-then-requires-3 c κs = search needs
 
 returns : tie.Need-returns
-returns c = search heading-is
+returns c =
+    let at-12 = c .before .before in
+    let at-11 = at-12 .before .before in
+    heading-is _ (c .and-then3 .ensures) (c .before .count-fault .ensures) (at-12 .and-then2 .ensures) (at-12 .before .heading-fault .ensures) (at-11 .and-then .ensures) (at-11 .before .length-fault .ensures)
 
 pub check-heading-spec : {M : Type 1} → statement M
 check-heading-spec =

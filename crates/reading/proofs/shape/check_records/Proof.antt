@@ -28,7 +28,9 @@ returns : tie.Need-returns
 returns c = refused-after _ recordChecks _ (c .before .found .given .1)
 
 returns-2 : tie.Need-returns-2
-returns-2 c = search records-are
+returns-2 c =
+    let at-17 = c .before .before in
+    records-are _ (c .and-then2 .ensures) (c .before .root-fault .ensures) (at-17 .and-then .ensures) (at-17 .before .record-fault .ensures) (at-17 .before .before .enum-told .given .1)
 
 pub check-records-spec : {M : Type 1} → statement M
 check-records-spec =

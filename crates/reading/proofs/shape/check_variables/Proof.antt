@@ -17,7 +17,9 @@ and-within-requires : tie.Need-and-within-requires
 and-within-requires c κs = search needs
 
 returns : tie.Need-returns
-returns c = search variables-are
+returns c =
+    let at-14 = c .before .before in
+    variables-are _ _ (c .and-within .ensures) (c .before .choices .ensures) (at-14 .and-then .ensures) (at-14 .before .variable-fault .ensures)
 
 pub check-variables-spec : {M : Type 1} → statement M
 check-variables-spec =

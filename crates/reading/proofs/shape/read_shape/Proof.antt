@@ -27,8 +27,8 @@ check-reward-requires c κs p =
 variable-count-requires : tie.Need-variable-count-requires
 variable-count-requires c κs = search needs
 
-cast-t11 : tie.Need-cast-t11
-cast-t11 c = search needs
+cast-variables : tie.Need-cast-variables
+cast-variables c = search needs
 
 record-count-requires : tie.Need-record-count-requires
 record-count-requires c κs = search needs
@@ -60,7 +60,7 @@ read-shape-spec =
     check-records-requires
     check-reward-requires
     variable-count-requires
-    cast-t11
+    cast-variables
     record-count-requires
     answer-requires
     returns)
