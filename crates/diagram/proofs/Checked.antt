@@ -89,37 +89,37 @@ pub record Passed (s : List ℕ) : Type 0 where
   pub monotone : monotoneFault s ≡ none
 
 -- the first check of a list that answers has passed, and so has the rest
-pub first-passed : (c : Check) (cs : List Check) (s : List ℕ) (r : Reading) → checked (c ∷ cs) (λ file. answered (reading file)) s ≡ answered r → (c .fault s ≡ none) × (checked cs (λ file. answered (reading file)) s ≡ answered r)
+first-passed : (c : Check) (cs : List Check) (s : List ℕ) (r : Reading) → checked (c ∷ cs) (λ file. answered (reading file)) s ≡ answered r → (c .fault s ≡ none) × (checked cs (λ file. answered (reading file)) s ≡ answered r)
 first-passed c cs s r e = go (c .fault s) refl
   where
     go : (o : Option ℕ) → c .fault s ≡ o → (c .fault s ≡ none) × (checked cs (λ file. answered (reading file)) s ≡ answered r)
     go none q = (q, sym (checked-passes c cs (λ file. answered (reading file)) s q) ∙ e)
     go (some i) q = absurd (answered-not-refused r (c .number) i (sym e ∙ checked-stops c cs (λ file. answered (reading file)) s i q))
 
+-- A check is one of a list
+pub data Among (c : Check) : List Check → Type 0 where
+  first : {cs : List Check} → Among c (c ∷ cs)
+  later : {b : Check} {cs : List Check} → Among c cs → Among c (b ∷ cs)
+
+-- each check of a list that answers has passed
+pub passed-among : {cs : List Check} (s : List ℕ) (r : Reading) → checked cs (λ file. answered (reading file)) s ≡ answered r → (number : ℕ) (fault : List ℕ → Option ℕ) → Among (record { number = number; fault = fault }) cs → fault s ≡ none
+passed-among s r e number fault first = first-passed _ _ s r e .0
+passed-among s r e number fault (later h) = passed-among s r (first-passed _ _ s r e .1) number fault h
+
 pub read-passed : (s : List ℕ) (r : Reading) → readOutcome s ≡ answered r → Passed s
 unfolding readOutcome tableChecks
 read-passed s r e =
-    let c11 = first-passed _ _ s r e in
-    let c12 = first-passed _ _ s r (c11 .1) in
-    let c13 = first-passed _ _ s r (c12 .1) in
-    let c14 = first-passed _ _ s r (c13 .1) in
-    let c15 = first-passed _ _ s r (c14 .1) in
-    let c16 = first-passed _ _ s r (c15 .1) in
-    let c17 = first-passed _ _ s r (c16 .1) in
-    let c26 = first-passed _ _ s r (c17 .1) in
-    let c27 = first-passed _ _ s r (c26 .1) in
-    let c18 = first-passed _ _ s r (c27 .1) in
     record {
-      length = c11 .0;
-      heading = c12 .0;
-      count = c13 .0;
-      variables = c14 .0;
-      choices = c15 .0;
-      scale = c16 .0;
-      records = c17 .0;
-      roots = c26 .0;
-      reward = c27 .0;
-      monotone = c18 .0;
+      length = passed-among s r e 11 lengthFault first;
+      heading = passed-among s r e 12 headingFault (search (first, later) depth 20);
+      count = passed-among s r e 13 countFault (search (first, later) depth 20);
+      variables = passed-among s r e 14 variableFault (search (first, later) depth 20);
+      choices = passed-among s r e 15 choiceFault (search (first, later) depth 20);
+      scale = passed-among s r e 16 scaleFault (search (first, later) depth 20);
+      records = passed-among s r e 17 recordFault (search (first, later) depth 20);
+      roots = passed-among s r e 26 rootFault (search (first, later) depth 20);
+      reward = passed-among s r e 27 rewardFault (search (first, later) depth 20);
+      monotone = passed-among s r e 18 monotoneFault (search (first, later) depth 20);
     }
 
 -- ---------------------------------------------------------------------------

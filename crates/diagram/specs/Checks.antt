@@ -152,55 +152,76 @@ bufferFault size s = placeZero (not (eqb size (choiceCount (tableOf s .variables
 unfoldable pub jobChecks : List Check
 jobChecks = record { number = 10; fault = jobFault } ∷ []
 
--- Those of every service, on the file; 26 and 27 are "the two checked after 17 and before 18"
-unfoldable pub tableChecks : List Check
-tableChecks =
+-- Those of every service, on the file, in named parts: the file's length and heading, the variable words, the product of b, the record and root words, B,
+-- and monotony
+abbrev pub headingChecks : List Check
+headingChecks =
     record { number = 11; fault = lengthFault }
     ∷ record { number = 12; fault = headingFault }
     ∷ record { number = 13; fault = countFault }
-    ∷ record { number = 14; fault = variableFault }
-    ∷ record { number = 15; fault = choiceFault }
-    ∷ record { number = 16; fault = scaleFault }
-    ∷ record { number = 17; fault = recordFault }
-    ∷ record { number = 26; fault = rootFault }
-    ∷ record { number = 27; fault = rewardFault }
-    ∷ record { number = 18; fault = monotoneFault }
     ∷ []
 
--- The score: file and plan, which has to be full
-unfoldable pub scoreChecks : (plan : List ℕ) → List Check
-scoreChecks p =
-    tableChecks
-    ++ record { number = 21; fault = planLengthFault p }
+abbrev pub variableChecks : List Check
+variableChecks =
+    record { number = 14; fault = variableFault }
+    ∷ record { number = 15; fault = choiceFault }
+    ∷ []
+
+abbrev pub scaleChecks : List Check
+scaleChecks = record { number = 16; fault = scaleFault } ∷ []
+
+-- 26 and 27 are "the two checked after 17 and before 18"
+abbrev pub recordChecks : List Check
+recordChecks =
+    record { number = 17; fault = recordFault }
+    ∷ record { number = 26; fault = rootFault }
+    ∷ []
+
+abbrev pub rewardChecks : List Check
+rewardChecks = record { number = 27; fault = rewardFault } ∷ []
+
+abbrev pub monotoneChecks : List Check
+monotoneChecks = record { number = 18; fault = monotoneFault } ∷ []
+
+unfoldable pub tableChecks : List Check
+tableChecks =
+    headingChecks ++ variableChecks ++ scaleChecks ++ recordChecks ++ rewardChecks ++ monotoneChecks
+
+-- Those of what comes with the file: a full plan, a plan, the percent, the kits (the budget), the size of the written buffer
+abbrev pub fullPlanChecks : (plan : List ℕ) → List Check
+fullPlanChecks p =
+    record { number = 21; fault = planLengthFault p }
     ∷ record { number = 22; fault = fullPlanFault p }
     ∷ []
 
+abbrev pub planChecks : (plan : List ℕ) → List Check
+planChecks p =
+    record { number = 21; fault = planLengthFault p }
+    ∷ record { number = 22; fault = planMarkFault p }
+    ∷ []
+
+abbrev pub percentChecks : (percent : ℕ) → List Check
+percentChecks percent = record { number = 23; fault = percentFault percent } ∷ []
+
+abbrev pub budgetChecks : (budget : ℕ) → List Check
+budgetChecks budget = record { number = 24; fault = budgetFault budget } ∷ []
+
+abbrev pub bufferChecks : (size : ℕ) → List Check
+bufferChecks size = record { number = 25; fault = bufferFault size } ∷ []
+
+-- The score: file and plan, which has to be full
+unfoldable pub scoreChecks : (plan : List ℕ) → List Check
+scoreChecks p = tableChecks ++ fullPlanChecks p
+
 -- The sweep: file, plan and the size of the drops buffer
 unfoldable pub sweepChecks : (plan : List ℕ) → (size : ℕ) → List Check
-sweepChecks p size =
-    tableChecks
-    ++ record { number = 21; fault = planLengthFault p }
-    ∷ record { number = 22; fault = planMarkFault p }
-    ∷ record { number = 25; fault = bufferFault size }
-    ∷ []
+sweepChecks p size = tableChecks ++ (planChecks p ++ bufferChecks size)
 
 -- The filter: file, plan, percent and the size of the plan buffer
 unfoldable pub filterChecks : (plan : List ℕ) → (percent size : ℕ) → List Check
-filterChecks p percent size =
-    tableChecks
-    ++ record { number = 21; fault = planLengthFault p }
-    ∷ record { number = 22; fault = planMarkFault p }
-    ∷ record { number = 23; fault = percentFault percent }
-    ∷ record { number = 25; fault = bufferFault size }
-    ∷ []
+filterChecks p percent size = tableChecks ++ (planChecks p ++ percentChecks percent ++ bufferChecks size)
 
--- The search: file, plan, kits (the budget), percent and the size of the plan buffer
+-- The search: file, plan, kits, percent and the size of the plan buffer
 unfoldable pub searchChecks : (plan : List ℕ) → (budget percent size : ℕ) → List Check
 searchChecks p budget percent size =
-    tableChecks
-    ++ record { number = 21; fault = planLengthFault p }
-    ∷ record { number = 22; fault = planMarkFault p }
-    ∷ record { number = 23; fault = percentFault percent }
-    ∷ record { number = 24; fault = budgetFault budget }
-    ∷ record { number = 25; fault = bufferFault size }
-    ∷ []
+    tableChecks ++ (planChecks p ++ percentChecks percent ++ budgetChecks budget ++ bufferChecks size)

@@ -1,3 +1,2 @@
--- What the enum of this crate stands for, and what its arrays hold.
-pub mod Answer
+-- What the arrays of this crate hold.
 pub mod Nodes

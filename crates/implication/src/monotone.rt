@@ -4,20 +4,20 @@
 // or have been met, until the stack is empty, and a record is at fault where the pair of true and false is met. A pair leads to
 // pairs at later positions, so that the stack has at most two pairs more than the table has variables. The pairs met are bits of
 // an array, 256 for each first node.
-use crate::answer::Fault;
 use decoding::Decoded;
 use decoding::child_of;
 use decoding::is_choice_at;
 use decoding::position_of;
 use diagram::Node;
 use diagram::Position;
+use steps::Fault;
 ghost use mathlib.Core.Path.{_≡_};
 ghost use Prim.Native.Nat.{ℕ, suc, _+_, _-_, _<_};
 ghost use lib.ListN.{length, set};
 ghost use lib.Dec.{eqb};
 ghost use Rattle.decoding.specs.Decoding.{tableIn};
-ghost use Rattle.implication.specs.Answer.{faultOf};
 ghost use Rattle.implication.specs.Nodes.{Checkable, monotoneFaultIn, next, isKnown, cell, zeros, Marked, Room, Stack, Explored};
+ghost use Rattle.steps.specs.Steps.{faultOf};
 
 // Check 18, of a decoded table whose records are formed, as check 17 leaves them.
 pub fn monotone_fault(t: Decoded) -> Fault

@@ -15,8 +15,8 @@ use Rattle.diagram.specs.Table.{Variable, choice, chance, variableOf, isChoice,
 use Rattle.diagram.specs.Checks.{firstPlace}
 use Rattle.diagram.proofs.Places.{sequence-at, place-start, place-here, place-next, place-end}
 use Rattle.decoding.proofs.Choosing.{is-choice-kind, variables-length}
-use Rattle.reading.specs.Answer.{boundedBy}
-use Rattle.reading.specs.declared.answer.Bounded.the-variants.{Within}
+use Rattle.steps.specs.declared.verdict.Fault.the-variants.{Nowhere}
+use Rattle.steps.specs.Steps.{boundedBy}
 
 -- ---------------------------------------------------------------------------
 -- A word's variable
@@ -115,7 +115,7 @@ module _ (number : List Variable → ℕ) (limit : ℕ) (s : List ℕ) where
     prefix-above h l = i .place ∙ place-here (above number limit s) 1 (variableCount s) p h (lt-ltb _ _ l)
 
     -- all variables within it
-    pub prefix-end : variableCount s ≤ p → Within x ≡ boundedBy (firstPlace (above number limit s) 1 (variableCount s)) (number (tableOf s .variables))
+    pub prefix-end : variableCount s ≤ p → record { fault = Nowhere; value = x } ≡ boundedBy (firstPlace (above number limit s) 1 (variableCount s)) (number (tableOf s .variables))
     unfolding boundedBy
     prefix-end h =
         let all : length (tableOf s .variables) ≤ p = omega (arith, variables-length s) in

@@ -2,3 +2,4 @@
 pub mod Counting
 pub mod Outcomes
 pub mod Accepted
+pub mod Shaping

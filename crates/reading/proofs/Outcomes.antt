@@ -1,16 +1,14 @@
--- What a check's enum tells of the list of checks: where it finds nothing the list goes on, and where it finds a place the list stops. What reading answers
--- after the checks 11 to 17, 26 and 27 and after all.
+-- What reading answers after the checks 11 to 17, 26 and 27 and after all, and what it hands out.
 -- Assumes nothing.
 use Prim.Native.Nat.{ℕ}
 use native.Mathlib.Omega.{arith}
 use mathlib.Core.Path.{_≡_, refl, ap, sym, _∙_}
-use mathlib.Core.Option.{Option, none, some}
-use mathlib.Core.List.{List, [], _∷_}
-use lib.ListN.{take, drop}
-use Rattle.diagram.specs.Checks.{Check, headingFault, choiceFault, recordFault, rootFault, monotoneFault, tableChecks}
+use mathlib.Core.Option.{none, some}
+use mathlib.Core.List.{List, []}
+use Rattle.diagram.specs.Checks.{headingFault, choiceFault, recordFault, rootFault, monotoneFault, monotoneChecks, tableChecks}
 use Rattle.diagram.specs.Table.{tableOf, variableCount, recordCount, choiceCount, scale}
 use Rattle.diagram.specs.Services.{Outcome, refused, answered, checked, reading, readOutcome, Reading}
-use Rattle.diagram.proofs.Checked.{checked-passes, checked-stops, checked-end, checked-append, checked-answered, checked-refused, answered-not-refused, first-passed, Passed, read-passed, read-reading}
+use Rattle.diagram.proofs.Checked.{checked-passes, checked-stops, checked-end, checked-append, checked-answered, checked-refused, first, later, passed-among, Passed, read-passed, read-reading}
 use Rattle.diagram.specs.declared.refusal.Refusal.{Refusal}
 use Rattle.decoding.specs.declared.table.Decoded.{Decoded}
 use Rattle.decoding.specs.Nodes.{Shaped}
@@ -19,68 +17,19 @@ use Rattle.decoding.proofs.Choosing.{variables-length}
 use Rattle.decoding.proofs.Shape.{heading-variables, heading-records, records-length, shaped-formed}
 use Rattle.decoding.proofs.Standing.{variables-in, records-in}
 use Rattle.implication.specs.Nodes.{Checkable}
-use Rattle.implication.specs.declared.answer.Fault.{Fault}
-use Rattle.implication.specs.declared.answer.Fault.the-variants.{At, Nowhere}
-use Rattle.implication.specs.Answer.{faultOf}
 use Rattle.reading.specs.declared.answer.Summary.{Summary}
 use Rattle.reading.specs.declared.answer.ReadAnswer.{ReadAnswer}
 use Rattle.reading.specs.declared.answer.ReadAnswer.the-variants.{Refused}
 use Rattle.reading.specs.declared.answer.TableAnswer.{TableAnswer}
-use Rattle.reading.specs.declared.answer.Bounded.{Bounded}
-use Rattle.reading.specs.declared.answer.Bounded.the-variants.{Within, Above}
-use Rattle.reading.specs.Answer.{outcomeOf, Reads, shapeOutcome, boundedBy}
+use Rattle.reading.specs.Answer.{outcomeOf, Reads, shapeChecks, shapeOutcome}
 
 -- ---------------------------------------------------------------------------
--- The enums
-
-pub fault-none : (o : Option ℕ) {r : Fault} → r ≡ faultOf o → r ≡ Nowhere → o ≡ none
-unfolding faultOf
-fault-none none e q = refl
-fault-none (some i) {r} e q =
-    let z : _≡_ {A = ℕ} 0 1 = cc in
-    absurd (omega arith)
-
-pub fault-some : (o : Option ℕ) {r : Fault} (i : ℕ) → r ≡ faultOf o → r ≡ At i → o ≡ some i
-unfolding faultOf
-fault-some none i e q =
-    let z : _≡_ {A = ℕ} 0 1 = cc in
-    absurd (omega arith)
-fault-some (some j) i e q = cc
-
-pub bounded-none : (o : Option ℕ) (x : ℕ) {r : Bounded} (y : ℕ) → r ≡ boundedBy o x → r ≡ Within y → (o ≡ none) × (y ≡ x)
-unfolding boundedBy
-bounded-none none x y e q = (refl, cc)
-bounded-none (some i) x y e q =
-    let z : _≡_ {A = ℕ} 0 1 = cc in
-    absurd (omega arith)
-
-pub bounded-some : (o : Option ℕ) (x : ℕ) {r : Bounded} (i : ℕ) → r ≡ boundedBy o x → r ≡ Above i → o ≡ some i
-unfolding boundedBy
-bounded-some none x i e q =
-    let z : _≡_ {A = ℕ} 0 1 = cc in
-    absurd (omega arith)
-bounded-some (some j) x i e q = cc
-
--- ---------------------------------------------------------------------------
--- Reading, from a check on
-
-abbrev pub readFrom : List Check → List ℕ → Outcome Reading
-readFrom cs s = checked cs (λ file. answered (reading file)) s
-
-module _ (c : Check) (cs : List Check) (s : List ℕ) where
-  pub goes-on : c .fault s ≡ none → readFrom (c ∷ cs) s ≡ readFrom cs s
-  goes-on e = checked-passes c cs _ s e
-
-  pub stops : (i : ℕ) → c .fault s ≡ some i → refused (c .number) i ≡ readFrom (c ∷ cs) s
-  stops i e = sym (checked-stops c cs _ s i e)
+-- The answers of `read_shape` and `read`
 
 -- the four numbers of an accepted file
 pub summary-is : (s : List ℕ) {v n c x : ℕ} → v ≡ variableCount s → n ≡ recordCount s → c ≡ choiceCount (tableOf s .variables) → x ≡ scale (tableOf s) → answered (record { variables = v; records = n; choices = c; scale = x }) ≡ answered (reading s)
 unfolding reading
 summary-is s ev en ec ex = rw (ev, en, ec, ex)
-
--- ---------------------------------------------------------------------------
--- The answers of `read_shape` and `read`
 
 -- the four numbers of a summary
 abbrev pub numbers : Summary → Reading
@@ -110,39 +59,39 @@ module _ (s : List ℕ) where
   pub shape-refuses : (n i : ℕ) → shapeOutcome s ≡ refused n i → readOutcome s ≡ refused n i
   unfolding readOutcome shapeOutcome tableChecks
   shape-refuses n i e =
-      checked-append s (take 9 tableChecks) (drop 9 tableChecks) _ ∙ checked-refused s (take 9 tableChecks) reading n i _ e
+      checked-append s shapeChecks monotoneChecks _ ∙ checked-refused s shapeChecks reading n i _ e
 
   module _ (a : Reading) (e : shapeOutcome s ≡ answered a) where
     -- of a file that they let through check 18 is left
-    check-18 : readOutcome s ≡ readFrom (record { number = 18; fault = monotoneFault } ∷ []) s
+    check-18 : readOutcome s ≡ checked monotoneChecks (λ file. answered (reading file)) s
     unfolding readOutcome shapeOutcome tableChecks
     check-18 =
-        checked-append s (take 9 tableChecks) (drop 9 tableChecks) _ ∙ checked-answered s (take 9 tableChecks) reading a _ e
+        checked-append s shapeChecks monotoneChecks _ ∙ checked-answered s shapeChecks reading a _ e
 
     pub stops-18 : (i : ℕ) → monotoneFault s ≡ some i → refused 18 i ≡ readOutcome s
-    stops-18 i q = stops _ [] s i q ∙ sym check-18
+    stops-18 i q = sym (check-18 ∙ checked-stops _ [] _ s i q)
 
     pub past-18 : monotoneFault s ≡ none → answered a ≡ readOutcome s
     unfolding shapeOutcome
     past-18 q =
-        sym e ∙ checked-answered s (take 9 tableChecks) reading a _ e ∙ sym (check-18 ∙ goes-on _ [] s q ∙ checked-end _ s)
+        sym e ∙ checked-answered s shapeChecks reading a _ e ∙ sym (check-18 ∙ checked-passes _ [] _ s q ∙ checked-end _ s)
 
     -- what they have shown of a file that they let through
     pub shape-shown : Shown s
-    unfolding shapeOutcome tableChecks
+    unfolding shapeOutcome
     shape-shown =
-        let c12 = first-passed _ _ s a (first-passed _ _ s a e .1) in
-        let c13 = first-passed _ _ s a (c12 .1) in
-        let c15 = first-passed _ _ s a (first-passed _ _ s a (c13 .1) .1) in
-        let c17 = first-passed _ _ s a (first-passed _ _ s a (c15 .1) .1) in
-        let c26 = first-passed _ _ s a (c17 .1) in
-        record { heading = c12 .0; choices = c15 .0; records = c17 .0; roots = c26 .0 }
+        record {
+          heading = passed-among s a e 12 headingFault (search (first, later) depth 20);
+          choices = passed-among s a e 15 choiceFault (search (first, later) depth 20);
+          records = passed-among s a e 17 recordFault (search (first, later) depth 20);
+          roots = passed-among s a e 26 rootFault (search (first, later) depth 20);
+        }
 
     -- the numbers are the table's
     pub shape-reading : a ≡ reading s
     unfolding shapeOutcome
     shape-reading =
-        let q : answered a ≡ answered (reading s) = sym e ∙ checked-answered s (take 9 tableChecks) reading a (λ file. answered (reading file)) e in
+        let q : answered a ≡ answered (reading s) = sym e ∙ checked-answered s shapeChecks reading a (λ file. answered (reading file)) e in
         cc
 
 -- ---------------------------------------------------------------------------
@@ -165,8 +114,8 @@ module _ (s : List ℕ) {r : ReadAnswer} (promise : outcomeOf r ≡ readOutcome 
 -- ---------------------------------------------------------------------------
 -- What `read_table` hands out
 
-module _ (s : List ℕ) where
-  pub reads-refused : {r : TableAnswer} (x : Refusal) → r ≡ record { answer = Refused x; table = emptyTable } → refused (x .number) (x .place) ≡ readOutcome s → Reads s r
+module _ (s : List ℕ) {o : Outcome Reading} where
+  pub reads-refused : {r : TableAnswer} (x : Refusal) → r ≡ record { answer = Refused x; table = emptyTable } → refused (x .number) (x .place) ≡ o → Reads s o r
   unfolding outcomeOf
   reads-refused {r} x e q =
       rw e
@@ -176,28 +125,28 @@ module _ (s : List ℕ) where
         refused = λ y f. refl;
       })
 
-  module _ (d : Decoded) (stands : tableIn d ≡ tableOf s) (held : Held d) where
-    pub reads-accepted : (t : Summary) → answered (numbers t) ≡ readOutcome s → Reads s (record { answer = ReadAnswer.Table t; table = d })
-    unfolding outcomeOf
-    reads-accepted t q =
-        record {
-          outcome = q;
-          accepted = λ u f. (stands, held);
-          refused = λ y f. let z : _≡_ {A = ℕ} 0 1 = cc in absurd (omega arith);
-        }
+  pub reads-accepted : (d : Decoded) → tableIn d ≡ tableOf s → Held d → (t : Summary) → answered (numbers t) ≡ o → Reads s o (record { answer = ReadAnswer.Table t; table = d })
+  unfolding outcomeOf
+  reads-accepted d stands held t q =
+      record {
+        outcome = q;
+        accepted = λ u f. (stands, held);
+        refused = λ y f. let z : _≡_ {A = ℕ} 0 1 = cc in absurd (omega arith);
+      }
 
-    pub variables-decoded : d .variables ≡ variableCount s
-    variables-decoded = sym (variables-in d) ∙ rw stands (variables-length s)
+module _ (s : List ℕ) (d : Decoded) (stands : tableIn d ≡ tableOf s) where
+  pub variables-decoded : d .variables ≡ variableCount s
+  variables-decoded = sym (variables-in d) ∙ rw stands (variables-length s)
 
-    pub records-decoded : d .records ≡ recordCount s
-    records-decoded = sym (records-in d) ∙ rw stands (records-length s)
+  pub records-decoded : d .records ≡ recordCount s
+  records-decoded = sym (records-in d) ∙ rw stands (records-length s)
 
-    -- check 18 can be made
-    pub shown-checkable : Shown s → Checkable d
-    shown-checkable h =
-        record {
-          held = held;
-          formed = rw (stands, variables-decoded) (shaped-formed s (record { heading = h .heading; records = h .records }));
-          few = omega (arith, variables-decoded, heading-variables s (h .heading));
-          most = omega (arith, records-decoded, heading-records s (h .heading));
-        }
+  -- check 18 can be made
+  pub shown-checkable : Held d → Shown s → Checkable d
+  shown-checkable held h =
+      record {
+        held = held;
+        formed = rw (stands, variables-decoded) (shaped-formed s (record { heading = h .heading; records = h .records }));
+        few = omega (arith, variables-decoded, heading-variables s (h .heading));
+        most = omega (arith, records-decoded, heading-records s (h .heading));
+      }

@@ -1,4 +1,4 @@
-// What reading answers, and what its checks answer.
+// What reading answers.
 use decoding::Decoded;
 use diagram::Refusal;
 
@@ -20,10 +20,4 @@ pub enum ReadAnswer {
 pub struct TableAnswer {
     pub answer: ReadAnswer,
     pub table: Decoded,
-}
-
-// A number within its limit, or the place of the refusal where it is above.
-pub enum Bounded {
-    Within(u64),
-    Above(usize),
 }

@@ -6,19 +6,19 @@ use diagram::field_q;
 use diagram::field_r;
 use diagram::kind;
 use diagram::word_at;
-use implication::Fault;
 use decoding::position_of;
 use decoding::record_count;
 use decoding::store;
 use decoding::variable_count;
+use steps::Fault;
 ghost use mathlib.Core.Path.{_≡_};
 ghost use mathlib.Core.Option.{none};
 ghost use mathlib.Core.List.{List};
 ghost use Prim.Native.Nat.{ℕ, _<_};
 ghost use Rattle.diagram.specs.Table.{Record};
 ghost use Rattle.diagram.specs.Checks.{headingFault, recordFault, isChild, isRecordWord};
-ghost use Rattle.implication.specs.Answer.{faultOf};
 ghost use Rattle.decoding.specs.Nodes.{Placed};
+ghost use Rattle.steps.specs.Steps.{faultOf};
 
 // Check 17. That the heading is right, check 12 has shown.
 pub fn record_fault(file: &[u8]) -> Fault

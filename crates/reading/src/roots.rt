@@ -1,5 +1,4 @@
 // The checks 26 and 27: the root words, and B.
-use crate::answer::Bounded;
 use crate::variables::exceeds;
 use decoding::root_at;
 use decoding::root_count;
@@ -9,17 +8,17 @@ use diagram::field_q;
 use diagram::field_r;
 use diagram::kind;
 use diagram::word_at;
-use implication::Fault;
 use decoding::record_count;
 use decoding::variable_count;
+use steps::Bounded;
+use steps::Fault;
 ghost use mathlib.Core.Path.{_≡_};
 ghost use mathlib.Core.Option.{none};
 ghost use Prim.Native.Nat.{_<_};
 ghost use Rattle.diagram.specs.Table.{tableOf, totalReward, scaleOf};
 ghost use Rattle.diagram.specs.Table as table;
 ghost use Rattle.diagram.specs.Checks.{headingFault, isRootWord, rootFault, rewardFault};
-ghost use Rattle.implication.specs.Answer.{faultOf};
-ghost use Rattle.reading.specs.Answer.{boundedBy};
+ghost use Rattle.steps.specs.Steps.{faultOf, boundedBy};
 
 // Check 26.
 pub fn root_fault(file: &[u8]) -> Fault
@@ -63,8 +62,8 @@ fn is_root_word(n: usize, w: u32) -> bool
     node as usize <= n + 1
 }
 
-// Check 27: B, from the product of b. It is tested before it is made. The checks 12 and 26 have passed, and `read_shape` has the
-// product from check 16.
+// Check 27: B, from the product of b. It is tested before it is made. The checks 12 and 26 have passed, and check 16 has found
+// the product.
 pub fn scale(file: &[u8], product: u64) -> Bounded
     requires passed { ⌜ (headingFault (now file) ≡ none) × (rootFault (now file) ≡ none) ⌝ }
     requires product { ⌜ product ≡ scaleOf (tableOf (now file) .variables) ⌝ }
@@ -72,9 +71,16 @@ pub fn scale(file: &[u8], product: u64) -> Bounded
 {
     let reward = total_reward(file);
     if exceeds(reward, product) {
-        return Bounded::Above(0);
+        return Bounded {
+            fault: Fault::At(0),
+            value: 0,
+        };
     }
-    Bounded::Within(reward * product)
+    let scale = reward * product;
+    Bounded {
+        fault: Fault::Nowhere,
+        value: scale,
+    }
 }
 
 // The total reward. The checks 12 and 26 have passed.

@@ -1,21 +1,20 @@
 // The checks 14 to 16: the variable words, the number of choices and the product of b.
-use crate::answer::Bounded;
 use diagram::Position;
 use diagram::field_p;
 use diagram::field_q;
 use diagram::field_r;
 use diagram::kind;
 use diagram::word_at;
-use implication::Fault;
 use decoding::is_choice;
 use decoding::variable_count;
+use steps::Bounded;
+use steps::Fault;
 ghost use mathlib.Core.Path.{_≡_};
 ghost use Prim.Native.Nat.{_*_, _^_};
 ghost use lib.Dec.{ltb};
 ghost use Rattle.diagram.specs.Table.{tableOf, choiceCount, scaleOf};
 ghost use Rattle.diagram.specs.Checks.{isVariableWord, variableFault, choiceFault, scaleFault};
-ghost use Rattle.implication.specs.Answer.{faultOf};
-ghost use Rattle.reading.specs.Answer.{boundedBy};
+ghost use Rattle.steps.specs.Steps.{faultOf, boundedBy};
 
 // Check 14.
 pub fn variable_fault(file: &[u8]) -> Fault
@@ -70,13 +69,19 @@ pub fn choices(file: &[u8]) -> Bounded
         let at = Position::new(p);
         if is_choice(file, at) {
             if count == 20 {
-                return Bounded::Above(at.word());
+                return Bounded {
+                    fault: Fault::At(at.word()),
+                    value: 0,
+                };
             }
             count += 1;
         }
         p += 1;
     }
-    Bounded::Within(count)
+    Bounded {
+        fault: Fault::Nowhere,
+        value: count,
+    }
 }
 
 // Check 16: the product of b. Each product is tested before it is made.
@@ -91,13 +96,19 @@ pub fn product(file: &[u8]) -> Bounded
         if !is_choice(file, at) {
             let b = field_r(word_at(file, at.word())) as u64;
             if exceeds(product, b) {
-                return Bounded::Above(at.word());
+                return Bounded {
+                    fault: Fault::At(at.word()),
+                    value: 0,
+                };
             }
             product *= b;
         }
         p += 1;
     }
-    Bounded::Within(product)
+    Bounded {
+        fault: Fault::Nowhere,
+        value: product,
+    }
 }
 
 // Whether a product of two numbers is above 2^56, found without making it.

@@ -4,13 +4,13 @@ use diagram::field_q;
 use diagram::field_r;
 use diagram::kind;
 use diagram::word_at;
-use implication::Fault;
 use decoding::record_count;
 use decoding::root_word_count;
 use decoding::variable_count;
+use steps::Fault;
 ghost use mathlib.Core.Path.{_≡_};
 ghost use Rattle.diagram.specs.Checks.{lengthFault, isHeading, headingFault, countFault};
-ghost use Rattle.implication.specs.Answer.{faultOf};
+ghost use Rattle.steps.specs.Steps.{faultOf};
 
 // Check 11.
 pub fn length_fault(file: &[u8]) -> Fault

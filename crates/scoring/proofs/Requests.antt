@@ -24,7 +24,7 @@ use Rattle.scoring.proofs.FullPlans.{full-closed, openTaken-same}
 -- the arrays of an accepted file's table hold its records
 pub decoded-read : {s : List ℕ} {d : read.Decoded} → tableIn d ≡ tableOf s → Held d → Decoded s (d .positions) (d .high) (d .low)
 decoded-read {s} {d} stands held =
-    let v : d .variables ≡ variableCount s = variables-decoded s d stands held in
+    let v : d .variables ≡ variableCount s = variables-decoded s d stands in
     record {
       positions = rw (stands, v) at (held .positions);
       high = rw stands at (held .high);

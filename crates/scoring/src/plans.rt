@@ -1,10 +1,10 @@
 // Check 22: the marks of a plan.
 use diagram::Plan;
-use reading::Fault;
+use steps::Fault;
 ghost use mathlib.Core.Path.{_≡_};
 ghost use mathlib.Core.List.{[]};
 ghost use Rattle.diagram.specs.Checks.{planMarkFault, fullPlanFault};
-ghost use Rattle.implication.specs.Answer.{faultOf};
+ghost use Rattle.steps.specs.Steps.{faultOf};
 
 // The first mark above 2.
 pub fn mark_fault(plan: &[u8]) -> Fault

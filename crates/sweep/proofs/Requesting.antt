@@ -11,7 +11,7 @@ use mathlib.Core.List.{List, [], _∷_, _++_}
 use lib.ListN.{length}
 use borrow.Author.Tests.{lt-ltb, le-ltb, eq-eqb, ne-eqb}
 use Rattle.diagram.specs.Table.{tableOf, choiceCount, scale}
-use Rattle.diagram.specs.Checks.{Check, placeZero, planLengthFault, planMarkFault, percentFault, budgetFault, bufferFault, tableChecks, sweepChecks, filterChecks, searchChecks}
+use Rattle.diagram.specs.Checks.{Check, placeZero, planMarkFault, percentFault, budgetFault, bufferFault, tableChecks, planChecks, percentChecks, budgetChecks, bufferChecks, sweepChecks, filterChecks, searchChecks}
 use Rattle.diagram.specs.Services.{Outcome, refused, answered, checked, Reading, reading, readOutcome, sweepOutcome, filtering, filterOutcome, searching, searchOutcome}
 use Rattle.diagram.specs.Plans.{upperBound, derivatives}
 use Rattle.diagram.proofs.Checked.{checked-passes, checked-stops, checked-end, checked-answered, checked-refused, read-refuses, read-answers, Passed, read-passed, read-reading}
@@ -83,7 +83,7 @@ module _ (s p : List ℕ) (budget percent size : ℕ) where
 
       module _ (marks : planMarkFault p [] ≡ none) where
         -- the checks after 22
-        from-23 : requestOutcome s p budget percent size ≡ checked (record { number = 23; fault = percentFault percent } ∷ record { number = 24; fault = budgetFault budget } ∷ record { number = 25; fault = bufferFault size } ∷ []) (λ file. answered (reading file)) s
+        from-23 : requestOutcome s p budget percent size ≡ checked (percentChecks percent ++ budgetChecks budget ++ bufferChecks size) (λ file. answered (reading file)) s
         unfolding requestOutcome searchChecks planMarkFault
         from-23 = read-answers s _ _ _ read ∙ checked-passes _ _ _ s (length-fits p s long) ∙ checked-passes _ _ _ s marks
 
@@ -97,7 +97,7 @@ module _ (s p : List ℕ) (budget percent size : ℕ) where
 
           module _ (budgets : budget ≤ 10020) where
             -- the last check
-            from-25 : requestOutcome s p budget percent size ≡ checked (record { number = 25; fault = bufferFault size } ∷ []) (λ file. answered (reading file)) s
+            from-25 : requestOutcome s p budget percent size ≡ checked (bufferChecks size) (λ file. answered (reading file)) s
             from-25 =
                 from-23 ∙ checked-passes _ _ _ s (percent-within s percent percents) ∙ checked-passes _ _ _ s (budget-within s budget budgets)
 
@@ -198,19 +198,12 @@ left-out s (b ∷ cs) c ds answer e = go (b .fault s) refl (left-out s cs c ds a
     go none q rest = checked-passes b (cs ++ c ∷ ds) answer s q ∙ rest ∙ sym (checked-passes b (cs ++ ds) answer s q)
     go (some i) q rest = checked-stops b (cs ++ c ∷ ds) answer s i q ∙ sym (checked-stops b (cs ++ ds) answer s i q)
 
--- The checks up to 22
-abbrev upTo22 : (plan : List ℕ) → List Check
-upTo22 p =
-    tableChecks ++ record { number = 21; fault = planLengthFault p } ∷ record { number = 22; fault = planMarkFault p } ∷ []
-
 module _ {A : Type 0} (s p : List ℕ) (size : ℕ) (answer : List ℕ → Outcome A) where
   -- with no kits, check 24 passes
   filter-checks : (percent : ℕ) → checked (searchChecks p 0 percent size) answer s ≡ checked (filterChecks p percent size) answer s
   unfolding searchChecks filterChecks tableChecks
   filter-checks percent =
-      left-out s (upTo22 p ++ record { number = 23; fault = percentFault percent } ∷ [])
-      (record { number = 24; fault = budgetFault 0 })
-      (record { number = 25; fault = bufferFault size } ∷ [])
+      left-out s (tableChecks ++ planChecks p ++ percentChecks percent) (record { number = 24; fault = budgetFault 0 }) (bufferChecks size)
       answer
       (budget-within s 0 (omega arith))
 
@@ -219,8 +212,7 @@ module _ {A : Type 0} (s p : List ℕ) (size : ℕ) (answer : List ℕ → Outco
   unfolding filterChecks sweepChecks tableChecks
   sweep-checks =
       filter-checks 0
-      ∙ left-out s (upTo22 p) (record { number = 23; fault = percentFault 0 })
-      (record { number = 25; fault = bufferFault size } ∷ [])
+      ∙ left-out s (tableChecks ++ planChecks p) (record { number = 23; fault = percentFault 0 }) (bufferChecks size)
       answer
       (percent-within s 0 (omega arith))
 

@@ -1,10 +1,10 @@
 // The checks of a request: those of the file, and those of what comes with it.
 use crate::answer::RequestAnswer;
 use diagram::Refusal;
-use reading::Fault;
 use reading::ReadAnswer;
 use reading::read_records;
 use scoring::mark_fault;
+use steps::Fault;
 ghost use mathlib.Core.Path.{_≡_};
 ghost use lib.ListN.{length};
 ghost use Rattle.diagram.specs.Table.{Record, variableCount};

@@ -4,10 +4,10 @@ use Prim.Native.Nat.{ℕ}
 use mathlib.Core.Path.{_≡_, refl, ap, _∙_}
 use mathlib.Core.Option.{Option, none, some}
 use mathlib.Core.List.{List, [], _∷_, _++_}
-use Rattle.diagram.specs.Checks.{Check, tableChecks}
+use Rattle.diagram.specs.Checks.{Check, headingChecks, variableChecks, scaleChecks, recordChecks, rewardChecks, monotoneChecks, tableChecks}
 use Rattle.diagram.specs.Services.{Outcome, refused, answered, checked, reading, readOutcome}
 use Rattle.diagram.proofs.Checked.{checked-passes, checked-stops, checked-end, read-reading}
-use Rattle.theorems.specs.Reasons.{Request, Reason, numberOf, Wrong, fileReasons, FirstReason, at-first, further-on, NoReason, no-row, passes-row, fileAlone, Accepted}
+use Rattle.theorems.specs.Reasons.{Request, Reason, tableLength, headingWord, wordCount, variableWord, choiceLimit, scaleLimit, recordWord, rootWord, rewardLimit, notMonotone, numberOf, Wrong, fileReasons, FirstReason, at-first, further-on, NoReason, no-row, passes-row, fileAlone, Accepted}
 use Rattle.theorems.proofs.Rows.{Renders, row-11, row-12, row-13, row-14, row-15, row-16, row-17, row-26, row-27, row-18}
 
 -- ---------------------------------------------------------------------------
@@ -52,30 +52,47 @@ at-once q a = answers a no-row refl
 -- ---------------------------------------------------------------------------
 -- The rows of each service
 
-module _ (q : Request) where
-  pub file-rows : Rendered q fileReasons tableChecks
-  unfolding fileReasons tableChecks numberOf
-  file-rows =
-      row refl (row-11 q)
-      (row refl (row-12 q)
-      (row refl (row-13 q)
-      (row refl (row-14 q)
-      (row refl (row-15 q)
-      (row refl (row-16 q)
-      (row refl (row-17 q)
-      (row refl (row-26 q)
-      (row refl (row-27 q)
-      (row refl (row-18 q) end)))))))))
-
 -- rows and their checks, one list after the other
 pub rendered-append : {q : Request} {rs ts : List Reason} {cs ds : List Check} → Rendered q rs cs → Rendered q ts ds → Rendered q (rs ++ ts) (cs ++ ds)
 rendered-append end t = t
 rendered-append (row number h rest) t = row number h (rendered-append rest t)
 
+-- the parts of a table's checks
 module _ (q : Request) where
+  pub heading-rows : Rendered q (tableLength ∷ headingWord ∷ wordCount ∷ []) headingChecks
+  unfolding numberOf
+  heading-rows = row refl (row-11 q) (row refl (row-12 q) (row refl (row-13 q) end))
+
+  pub variable-rows : Rendered q (variableWord ∷ choiceLimit ∷ []) variableChecks
+  unfolding numberOf
+  variable-rows = row refl (row-14 q) (row refl (row-15 q) end)
+
+  pub scale-rows : Rendered q (scaleLimit ∷ []) scaleChecks
+  unfolding numberOf
+  scale-rows = row refl (row-16 q) end
+
+  pub record-rows : Rendered q (recordWord ∷ rootWord ∷ []) recordChecks
+  unfolding numberOf
+  record-rows = row refl (row-17 q) (row refl (row-26 q) end)
+
+  pub reward-rows : Rendered q (rewardLimit ∷ []) rewardChecks
+  unfolding numberOf
+  reward-rows = row refl (row-27 q) end
+
+  pub monotone-rows : Rendered q (notMonotone ∷ []) monotoneChecks
+  unfolding numberOf
+  monotone-rows = row refl (row-18 q) end
+
+  pub file-rows : Rendered q fileReasons tableChecks
+  unfolding fileReasons tableChecks
+  file-rows =
+      rendered-append heading-rows
+      (rendered-append variable-rows
+      (rendered-append scale-rows (rendered-append record-rows (rendered-append reward-rows monotone-rows))))
+
   pub read-decided : Decided q fileReasons (readOutcome (q .file))
   unfolding fileReasons readOutcome
-  read-decided = decide (file-rows q) (λ file. answered (reading file)) (at-once q _)
+  read-decided = decide file-rows (λ file. answered (reading file)) (at-once q _)
 
 -- ---------------------------------------------------------------------------
 -- Accepted tables

@@ -5,7 +5,8 @@ use Rattle.diagram.specs.Services.{Reading, reading, answered}
 use Rattle.implication.proofs.Pairing.{fault-of-table}
 use Rattle.reading.specs.Answer.{shapeOutcome}
 use Rattle.reading.proofs.Accepted.{choices-within}
-use Rattle.reading.proofs.Outcomes.{fault-none, fault-some, numbers, refused-as, table-as, shape-refuses, shape-shown, shape-reading, stops-18, past-18, reads-refused, reads-accepted, shown-checkable}
+use Rattle.steps.proofs.Stepping.{fault-none, fault-some}
+use Rattle.reading.proofs.Outcomes.{numbers, refused-as, table-as, shape-refuses, shape-shown, shape-reading, stops-18, past-18, reads-refused, reads-accepted, shown-checkable}
 use borrow.Author.Needs.{needs}
 use Rattle.reading.proofs.read_table.Statement.{statement}
 use Rattle.reading.proofs.read_table.Tie as tie

@@ -8,7 +8,8 @@ use Rattle.diagram.specs.Checks.{fullPlanFault}
 use Rattle.diagram.specs.Table.{tableOf, choiceCount}
 use Rattle.diagram.specs.Services.{answered, reading, readOutcome}
 use Rattle.diagram.proofs.Checked.{Passed}
-use Rattle.reading.proofs.Outcomes.{fault-none, fault-some, refused-read, table-read, table-passed, table-choices}
+use Rattle.steps.proofs.Stepping.{fault-none, fault-some}
+use Rattle.reading.proofs.Outcomes.{refused-read, table-read, table-passed, table-choices}
 use Rattle.scoring.specs.Answer.{outcomeOf}
 use Rattle.scoring.proofs.FullPlans.{full-legal}
 use Rattle.scoring.proofs.Requests.{decoded-read, score-refused, score-21, score-22, score-answered}

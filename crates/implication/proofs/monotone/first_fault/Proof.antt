@@ -10,9 +10,9 @@ use Rattle.diagram.specs.Checks.{firstPlace}
 use Rattle.diagram.proofs.Places.{place-start, place-here, place-next, place-end}
 use Rattle.decoding.specs.Decoding.{tableIn}
 use Rattle.decoding.proofs.Standing.{variables-in, records-in}
-use Rattle.implication.specs.Answer.{faultOf}
 use Rattle.implication.specs.Nodes.{monotoneFaultIn, cell, Stack}
-use Rattle.implication.specs.declared.answer.Fault.the-variants.{At}
+use Rattle.steps.specs.Steps.{faultOf}
+use Rattle.steps.specs.declared.verdict.Fault.the-variants.{At}
 use Rattle.implication.proofs.Cells.{tested-one, tested-zero}
 use Rattle.implication.proofs.Pairing.{unmonotone-at, unmonotone-test}
 use Rattle.implication.proofs.monotone.first_fault.Statement.{statement}

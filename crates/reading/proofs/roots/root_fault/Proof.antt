@@ -10,8 +10,8 @@ use Rattle.diagram.specs.Words.{wordAt}
 use Rattle.diagram.specs.Table.{variableCount, recordCount, rootCount}
 use Rattle.diagram.specs.Checks.{rootFault, isRootWord, firstPlace}
 use Rattle.diagram.proofs.Places.{place-start, place-here, place-next, place-end}
-use Rattle.implication.specs.declared.answer.Fault.the-variants.{At}
-use Rattle.implication.specs.Answer.{faultOf}
+use Rattle.steps.specs.declared.verdict.Fault.the-variants.{At}
+use Rattle.steps.specs.Steps.{faultOf}
 use Rattle.reading.proofs.roots.root_fault.Statement.{statement}
 use Rattle.reading.proofs.roots.root_fault.Tie as tie
 

@@ -9,8 +9,8 @@ use borrow.Author.Needs.{needs}
 use borrow.Author.Tests.{ltb-false}
 use Rattle.diagram.specs.Table.{tableOf, scale}
 use Rattle.diagram.specs.Checks.{rewardFault, placeZero}
-use Rattle.reading.specs.declared.answer.Bounded.the-variants.{Within, Above}
-use Rattle.reading.specs.Answer.{boundedBy}
+use Rattle.steps.specs.declared.verdict.Fault.the-variants.{At, Nowhere}
+use Rattle.steps.specs.Steps.{boundedBy}
 use Rattle.reading.proofs.roots.scale.Statement.{statement}
 use Rattle.reading.proofs.roots.scale.Tie as tie
 
@@ -25,11 +25,11 @@ tested c = c .exceeds .ensures ∙ ap (ltb (2 ^ 56)) (scale-is (c .before))
 
 -- the two answers
 module _ (s : List ℕ) {b : Bool} (e : b ≡ ltb (2 ^ 56) (scale (tableOf s))) where
-  above : b ≡ true → Above 0 ≡ boundedBy (rewardFault s) (scale (tableOf s))
+  above : b ≡ true → record { fault = At 0; value = 0 } ≡ boundedBy (rewardFault s) (scale (tableOf s))
   unfolding rewardFault placeZero boundedBy
   above q = rw (sym e ∙ q) refl
 
-  within : {x : ℕ} → b ≡ false → x ≡ scale (tableOf s) → Within x ≡ boundedBy (rewardFault s) (scale (tableOf s))
+  within : {x : ℕ} → b ≡ false → x ≡ scale (tableOf s) → record { fault = Nowhere; value = x } ≡ boundedBy (rewardFault s) (scale (tableOf s))
   unfolding rewardFault placeZero boundedBy
   within q f = rw (f, sym e ∙ q) refl
 
@@ -42,12 +42,12 @@ exceeds-requires c κs = search needs
 returns : tie.Need-returns
 returns c = above _ (tested (c .before)) (c .if1 .taken)
 
-mul-t5 : tie.Need-mul-t5
-mul-t5 c =
+mul-scale : tie.Need-mul-scale
+mul-scale c =
     omega (arith, scale-is (c .before .before), ltb-false (2 ^ 56) (scale (tableOf (c .before .before .before .before .args .file .now))) (sym (tested (c .before)) ∙ c .if1 .left))
 
 returns-2 : tie.Need-returns-2
 returns-2 c = within _ (tested (c .before)) (c .if1 .left) (scale-is (c .before .before))
 
 pub scale-spec : {M : Type 1} → statement M
-scale-spec = tie.close (tie.spec total-reward-requires exceeds-requires returns mul-t5 returns-2)
+scale-spec = tie.close (tie.spec total-reward-requires exceeds-requires returns mul-scale returns-2)

@@ -6,7 +6,7 @@ use mathlib.Core.Path.{_≡_, _∙_}
 use mathlib.Core.Logic.{⊎-elim}
 use Rattle.diagram.specs.Table.{isChoice, choiceCount, variableCount}
 use Rattle.diagram.specs.Checks.{choiceFault}
-use Rattle.reading.specs.Answer.{boundedBy}
+use Rattle.steps.specs.Steps.{boundedBy}
 use Rattle.reading.proofs.Counting.{next, Prefix, prefix-start, prefix-next, prefix-above, prefix-end, choice-more, choice-same}
 use Rattle.reading.proofs.variables.choices.Statement.{statement}
 use Rattle.reading.proofs.variables.choices.Tie as tie

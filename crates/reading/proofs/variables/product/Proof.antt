@@ -7,7 +7,7 @@ use mathlib.Core.Logic.{⊎-elim}
 use borrow.Author.Tests.{ltb-true, ltb-false, not-true, not-false}
 use Rattle.diagram.specs.Table.{isChoice, scaleOf, variableCount}
 use Rattle.diagram.specs.Checks.{scaleFault}
-use Rattle.reading.specs.Answer.{boundedBy}
+use Rattle.steps.specs.Steps.{boundedBy}
 use Rattle.reading.proofs.Counting.{next, Prefix, prefix-start, prefix-next, prefix-above, prefix-end, scale-more, scale-same}
 use Rattle.reading.proofs.variables.product.Statement.{statement}
 use Rattle.reading.proofs.variables.product.Tie as tie

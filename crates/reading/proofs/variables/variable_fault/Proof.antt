@@ -9,7 +9,7 @@ use Rattle.diagram.specs.Words.{wordAt}
 use Rattle.diagram.specs.Table.{variableCount}
 use Rattle.diagram.specs.Checks.{isVariableWord, firstPlace, variableFault}
 use Rattle.diagram.proofs.Places.{place-start, place-here, place-next, place-end}
-use Rattle.implication.specs.Answer.{faultOf}
+use Rattle.steps.specs.Steps.{faultOf}
 use Rattle.reading.proofs.variables.variable_fault.Statement.{statement}
 use Rattle.reading.proofs.variables.variable_fault.Tie as tie
 

@@ -2,7 +2,7 @@
 use borrow.Author.Tests.{eq-eqb, ne-eqb}
 use borrow.Author.Needs.{needs}
 use Rattle.diagram.specs.Checks.{countFault, placeZero}
-use Rattle.implication.specs.Answer.{faultOf}
+use Rattle.steps.specs.Steps.{faultOf}
 use Rattle.reading.proofs.words.count_fault.Statement.{statement}
 use Rattle.reading.proofs.words.count_fault.Tie as tie
 

@@ -1,7 +1,7 @@
 -- `heading_fault` meets its contract: `is_heading` is asked of word 0. Assumes nothing.
 use borrow.Author.Needs.{needs}
 use Rattle.diagram.specs.Checks.{headingFault, placeZero}
-use Rattle.implication.specs.Answer.{faultOf}
+use Rattle.steps.specs.Steps.{faultOf}
 use Rattle.reading.proofs.words.heading_fault.Statement.{statement}
 use Rattle.reading.proofs.words.heading_fault.Tie as tie
 

@@ -1,7 +1,7 @@
 -- `length_fault` meets its contract: each return by the tests before it. Assumes nothing.
 use borrow.Author.Tests.{lt-ltb, le-ltb, eq-eqb, ne-eqb}
 use Rattle.diagram.specs.Checks.{lengthFault, placeZero}
-use Rattle.implication.specs.Answer.{faultOf}
+use Rattle.steps.specs.Steps.{faultOf}
 use Rattle.reading.proofs.words.length_fault.Statement.{statement}
 use Rattle.reading.proofs.words.length_fault.Tie as tie
 

@@ -11,7 +11,7 @@ use lib.Dec.{eqb, ltb}
 use borrow.Author.Tests.{lt-ltb, le-ltb, eq-eqb, ne-eqb}
 use Rattle.diagram.specs.Checks.{firstPlace, fullPlanFault}
 use Rattle.diagram.proofs.Places.{place-start, place-here, place-next, place-end}
-use Rattle.implication.specs.Answer.{faultOf}
+use Rattle.steps.specs.Steps.{faultOf}
 use Rattle.scoring.proofs.plans.full_plan_fault.Statement.{statement}
 use Rattle.scoring.proofs.plans.full_plan_fault.Tie as tie
 

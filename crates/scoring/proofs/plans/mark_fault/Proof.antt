@@ -11,7 +11,7 @@ use lib.Dec.{ltb}
 use borrow.Author.Tests.{lt-ltb, le-ltb}
 use Rattle.diagram.specs.Checks.{firstPlace, planMarkFault}
 use Rattle.diagram.proofs.Places.{place-start, place-here, place-next, place-end}
-use Rattle.implication.specs.Answer.{faultOf}
+use Rattle.steps.specs.Steps.{faultOf}
 use Rattle.scoring.proofs.plans.mark_fault.Statement.{statement}
 use Rattle.scoring.proofs.plans.mark_fault.Tie as tie
 

@@ -7,7 +7,8 @@ use lib.ListN.{length}
 use Rattle.diagram.specs.Checks.{planMarkFault}
 use Rattle.diagram.specs.Table.{tableOf, choiceCount}
 use Rattle.diagram.specs.Services.{answered, reading, readOutcome}
-use Rattle.reading.proofs.Outcomes.{fault-none, fault-some, refused-read, table-read, table-choices}
+use Rattle.steps.proofs.Stepping.{fault-none, fault-some}
+use Rattle.reading.proofs.Outcomes.{refused-read, table-read, table-choices}
 use Rattle.sweep.specs.Answer.{requestOf}
 use Rattle.sweep.proofs.Requesting.{request-refused, request-21, request-22, request-23, request-24, request-25, request-accepted, table-answered}
 use borrow.Author.Needs.{needs}

@@ -1,0 +1,77 @@
+-- The parts of the checks 11 to 17, 26 and 27 as steps: the code of each part is its list, the parts together are the whole list, and what each part asks
+-- for has been found before.
+-- Assumes nothing.
+use Prim.Native.Nat.{ℕ}
+use mathlib.Core.Path.{_≡_, refl, ap, sym, _∙_}
+use mathlib.Core.Option.{none}
+use mathlib.Core.List.{List, [], _∷_}
+use Rattle.diagram.specs.Table.{tableOf, choiceCount, scaleOf, scale}
+use Rattle.diagram.specs.Checks.{lengthFault, headingFault, countFault, variableFault, choiceFault, recordFault, rootFault, headingChecks, variableChecks, scaleChecks, recordChecks, rewardChecks}
+use Rattle.diagram.specs.Services.{Outcome, answered, reading}
+use Rattle.diagram.proofs.Checked.{first, later}
+use Rattle.steps.specs.declared.verdict.Fault.{Fault}
+use Rattle.steps.specs.declared.verdict.Bounded.{Bounded}
+use Rattle.steps.specs.declared.verdict.Verdict.{Verdict}
+use Rattle.steps.specs.declared.verdict.Verdict.the-variants.{Passes, Refused}
+use Rattle.steps.specs.declared.verdict.Measured.{Measured}
+use Rattle.steps.specs.Steps.{faultOf, boundedBy, andThen, andWithin, findingAfter, finding, Measures}
+use Rattle.steps.proofs.Stepping.{one-check, one-measured, measures-after, passes-before, passes-among, decided, checked-finding}
+use Rattle.reading.specs.declared.answer.Summary.{Summary}
+use Rattle.reading.specs.Answer.{outcomeOf, answerOf, shapeChecks, shapeOutcome}
+use Rattle.reading.proofs.Outcomes.{numbers}
+
+-- ---------------------------------------------------------------------------
+-- The parts
+
+-- three steps are the first list
+pub heading-is : (s : List ℕ) {v w x : Verdict} {a b c : Fault} → x ≡ andThen w 13 c → c ≡ faultOf (countFault s) → w ≡ andThen v 12 b → b ≡ faultOf (headingFault s) → v ≡ andThen Passes 11 a → a ≡ faultOf (lengthFault s) → x ≡ finding headingChecks s
+unfolding findingAfter
+heading-is s e13 f13 e12 f12 e11 f11 = rw (e13, f13, e12, f12, e11, f11) refl
+
+-- two are the second
+pub variables-are : (s : List ℕ) (v : Verdict) {w : Verdict} {f : Fault} {b : Bounded} {r : Measured} → r ≡ andWithin w 15 b → b ≡ boundedBy (choiceFault s) (choiceCount (tableOf s .variables)) → w ≡ andThen v 14 f → f ≡ faultOf (variableFault s) → Measures v variableChecks s (choiceCount (tableOf s .variables)) r
+variables-are s v {w} e15 f15 e14 f14 =
+    measures-after v _ _ s _ (one-check v (record { number = 14; fault = variableFault }) s e14 f14) (one-measured w _ s _ e15 f15)
+
+-- two are that of the record and root words
+pub records-are : (s : List ℕ) {u v w : Verdict} {a b : Fault} → w ≡ andThen v 26 b → b ≡ faultOf (rootFault s) → v ≡ andThen Passes 17 a → a ≡ faultOf (recordFault s) → u ≡ Passes → w ≡ findingAfter u recordChecks s
+unfolding findingAfter
+records-are s e26 f26 e17 f17 p = rw (e26, f26, e17, f17, p) refl
+
+-- ---------------------------------------------------------------------------
+-- The parts together
+
+module _ (s : List ℕ) {v : Verdict} {choices product : Measured} (e11 : v ≡ finding headingChecks s) (e14 : Measures v variableChecks s (choiceCount (tableOf s .variables)) choices) (e16 : Measures (choices .found) scaleChecks s (scaleOf (tableOf s .variables)) product) where
+  -- what the check of the record words asks for
+  pub heading-passed : product .found ≡ Passes → headingFault s ≡ none
+  heading-passed p =
+      passes-among Passes s e11 (passes-before variableChecks s (e14 .found) (passes-before scaleChecks s (e16 .found) p)) 12 headingFault (search (first, later))
+
+  module _ {w : Verdict} (e17 : w ≡ findingAfter (product .found) recordChecks s) where
+    -- what that of B asks for
+    pub roots-passed : w ≡ Passes → (headingFault s ≡ none) × (rootFault s ≡ none) × (product .value ≡ scaleOf (tableOf s .variables))
+    roots-passed p =
+        let q = passes-before recordChecks s e17 p in
+        (heading-passed q, passes-among _ s e17 p 26 rootFault (search (first, later)), e16 .value q)
+
+    module _ {b : Measured} (e27 : Measures w rewardChecks s (scale (tableOf s)) b) where
+      pub shape-found : b .found ≡ finding shapeChecks s
+      unfolding findingAfter
+      shape-found = rw (e27 .found, e17, e16 .found, e14 .found, e11) refl
+
+      -- the number of choices where all have passed
+      pub choices-found : b .found ≡ Passes → choices .value ≡ choiceCount (tableOf s .variables)
+      choices-found p =
+          e14 .value (passes-before scaleChecks s (e16 .found) (passes-before recordChecks s e17 (passes-before rewardChecks s (e27 .found) p)))
+
+-- what is answered is the outcome, if the numbers are right where nothing is found
+pub answer-is : (s : List ℕ) {v : Verdict} (t : Summary) → v ≡ finding shapeChecks s → (v ≡ Passes → answered (numbers t) ≡ answered (reading s)) → outcomeOf (answerOf v t) ≡ shapeOutcome s
+unfolding outcomeOf answerOf decided shapeOutcome
+answer-is s {v} t e right =
+    go v refl
+    ∙ ap (λ (w : Verdict). decided w (answered (reading s))) e
+    ∙ sym (checked-finding shapeChecks (λ file. answered (reading file)) s)
+  where
+    go : (w : Verdict) → v ≡ w → outcomeOf (answerOf v t) ≡ decided v (answered (reading s))
+    go Passes q = rw q (right q)
+    go (Refused r) q = rw q refl

@@ -1,0 +1,2 @@
+-- Laws for checks as steps.
+pub mod Stepping

@@ -1,0 +1,2 @@
+-- What checks find, one after the other.
+pub mod Steps
