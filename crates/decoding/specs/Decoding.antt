@@ -1,9 +1,12 @@
 -- The table that a decoded one stands for, and what its arrays hold beside.
-use Prim.Native.Nat.{ℕ, suc, _+_, _-_}
+use Prim.Native.Nat.{ℕ, suc, _+_, _-_, _≤_, _<_, _^_}
 use mathlib.Core.Path.{_≡_}
 use mathlib.Core.List.{List, [], _∷_, _++_}
 use lib.ListN.{length, getD, take, replicate}
-use Rattle.diagram.specs.Table.{Variable, choice, chance, Record, Root, Table, sequence, variableOf, choiceCount, scale}
+use Rattle.diagram.specs.Table.{Variable, choice, chance, Record, Root, Table, sequence, variableOf, choiceCount, scaleOf, scale}
+use Rattle.diagram.proofs.Truth.{Formed}
+use Rattle.diagram.proofs.FirstVariable.{Shares}
+use Rattle.diagram.proofs.Rising.{Monotone}
 use Rattle.decoding.specs.declared.table.Decoded.{Decoded}
 use Rattle.decoding.specs.Nodes.{column}
 
@@ -74,6 +77,29 @@ pub record Held (d : Decoded) : Type 0 where
   pub low : d .low ≡ column 0 (λ (r : Record). r .lo) (tableIn d .records)
   pub nodes : d .nodes ≡ padTo 16 (rootNodes (tableIn d .roots))
   pub rewards : d .rewards ≡ padTo 16 (rootRewards (tableIn d .roots))
+
+-- Every root is a record's node
+abbrev pub Rooted : Table → Type 0
+Rooted t =
+    (i : ℕ) → i < length (t .roots) → (2 ≤ rootAt (t .roots) i .node) × (rootAt (t .roots) i .node < length (t .records) + 2)
+
+-- What the checks of a file have shown of its table
+pub record Accepted (t : Table) : Type 0 where
+  pub variables : (1 ≤ length (t .variables)) × (length (t .variables) ≤ 60)
+  pub records : (1 ≤ length (t .records)) × (length (t .records) ≤ 254)
+  pub choices : choiceCount (t .variables) ≤ 20
+  pub shares : Shares (t .variables)
+  pub product : scaleOf (t .variables) ≤ 2 ^ 56
+  pub formed : Formed (length (t .variables)) (t .records)
+  pub roots : length (t .roots) ≤ 16
+  pub rooted : Rooted t
+  pub scaled : scale t ≤ 2 ^ 56
+  pub monotone : Monotone t
+
+-- A decoded table that is accepted
+pub record Sound (d : Decoded) : Type 0 where
+  pub held : Held d
+  pub accepted : Accepted (tableIn d)
 
 -- The table of a file that is turned away: zeros everywhere
 unfoldable pub emptyTable : Decoded

@@ -25,7 +25,8 @@ use Rattle.decoding.specs.Decoding.{rootAt}
 use Rattle.scoring.specs.Value.{place, value, rootedSum, highWeight, lowWeight}
 use Rattle.scoring.specs.Passes.{byNode, Arcs}
 use Rattle.scoring.proofs.Values.{shares-drop, weights-scale, value-false, value-true, value-step, score-rooted, scale-rooted}
-use Rattle.sweep.specs.Down.{dot, recordSum, added, rootWeights, rootWeight, Rooted, handOn, passDown, Budget}
+use Rattle.sweep.specs.Down.{dot, recordSum, added, rootWeights, rootWeight, handOn, passDown, Budget}
+use Rattle.decoding.specs.Decoding.{Rooted}
 use Rattle.sweep.specs.Drops.{shortfall}
 use Rattle.sweep.proofs.Transposing.{added-length, hand-on-length, hand-on-other, stays, transposed, budget-next, budget-weight}
 use Rattle.sweep.proofs.Leaving.{left-step}

@@ -13,7 +13,8 @@ use Rattle.diagram.proofs.FirstVariable.{Shares}
 use Rattle.diagram.proofs.Rising.{Monotone}
 use Rattle.scoring.specs.Value.{place, value, variableAt, highWeight, lowWeight, highArc, lowArc}
 use Rattle.scoring.specs.Passes.{markOf, highInForce}
-use Rattle.sweep.specs.Down.{rootWeight, Rooted}
+use Rattle.sweep.specs.Down.{rootWeight}
+use Rattle.decoding.specs.Decoding.{Rooted}
 use Rattle.layers.specs.Weights.{pathWeight, into}
 use Rattle.layers.specs.Layers.{Layers, Sized, inflow}
 

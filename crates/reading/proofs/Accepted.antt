@@ -24,6 +24,8 @@ use Rattle.diagram.proofs.Implication.{implies-same}
 use Rattle.diagram.proofs.FirstVariable.{Shares, no-shares, choice-shares, chance-shares}
 use Rattle.diagram.proofs.Rising.{Monotone}
 use Rattle.decoding.specs.Nodes.{Shaped}
+use Rattle.decoding.specs.Decoding.{Accepted}
+use Rattle.decoding.proofs.Rooting.{roots-few, root-is}
 use Rattle.implication.specs.Nodes.{monotoneFaultIn}
 use Rattle.decoding.proofs.Choosing.{variables-length}
 use Rattle.decoding.proofs.Shape.{heading-variables, heading-records, records-length, record-past, shaped-formed}
@@ -116,3 +118,21 @@ passed-scale {s} h = ltb-false (2 ^ 56) _ (no-fault _ (h .reward))
     no-fault true e =
         let z : _≡_ {A = ℕ} 0 1 = cc in
         absurd (omega arith)
+
+-- ---------------------------------------------------------------------------
+-- The table of a file that no check finds at fault
+
+pub passed-accepted : {s : List ℕ} → Passed s → Accepted (tableOf s)
+passed-accepted {s} h =
+    record {
+      variables = passed-variables h;
+      records = passed-records h;
+      choices = passed-choices h;
+      shares = passed-shares h;
+      product = passed-product h;
+      formed = passed-formed h;
+      roots = roots-few s (h .heading) (h .roots);
+      rooted = λ i l. rw records-length (root-is s (h .heading) (h .roots) i l .within);
+      scaled = passed-scale h;
+      monotone = passed-monotone h;
+    }

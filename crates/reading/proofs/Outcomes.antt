@@ -12,7 +12,7 @@ use Rattle.diagram.proofs.Checked.{checked-passes, checked-stops, checked-end, 
 use Rattle.diagram.specs.declared.refusal.Refusal.{Refusal}
 use Rattle.decoding.specs.declared.table.Decoded.{Decoded}
 use Rattle.decoding.specs.Nodes.{Shaped}
-use Rattle.decoding.specs.Decoding.{tableIn, Held, emptyTable}
+use Rattle.decoding.specs.Decoding.{tableIn, Held, Sound, emptyTable}
 use Rattle.decoding.proofs.Choosing.{variables-length}
 use Rattle.decoding.proofs.Shape.{heading-variables, heading-records, records-length, shaped-formed}
 use Rattle.decoding.proofs.Standing.{variables-in, records-in}
@@ -125,12 +125,12 @@ module _ (s : List ℕ) {o : Outcome Reading} where
         refused = λ y f. refl;
       })
 
-  pub reads-accepted : (d : Decoded) → tableIn d ≡ tableOf s → Held d → (t : Summary) → answered (numbers t) ≡ o → Reads s o (record { answer = ReadAnswer.Table t; table = d })
+  pub reads-accepted : (d : Decoded) → tableIn d ≡ tableOf s → Sound d → (t : Summary) → answered (numbers t) ≡ o → Reads s o (record { answer = ReadAnswer.Table t; table = d })
   unfolding outcomeOf
-  reads-accepted d stands held t q =
+  reads-accepted d stands sound t q =
       record {
         outcome = q;
-        accepted = λ u f. (stands, held);
+        accepted = λ u f. (stands, sound);
         refused = λ y f. let z : _≡_ {A = ℕ} 0 1 = cc in absurd (omega arith);
       }
 

@@ -9,7 +9,7 @@ use Rattle.diagram.specs.declared.refusal.Refusal.{Refusal}
 use Rattle.steps.specs.declared.verdict.Verdict.{Verdict}
 use Rattle.steps.specs.declared.verdict.Verdict.the-variants.{Passes}
 use Rattle.steps.specs.declared.verdict.Verdict.the-variants as verdict
-use Rattle.decoding.specs.Decoding.{tableIn, Held, emptyTable}
+use Rattle.decoding.specs.Decoding.{tableIn, Sound, emptyTable}
 use Rattle.reading.specs.declared.answer.Summary.{Summary}
 use Rattle.reading.specs.declared.answer.ReadAnswer.{ReadAnswer}
 use Rattle.reading.specs.declared.answer.ReadAnswer.the-variants.{Table, Refused}
@@ -24,7 +24,7 @@ outcomeOf (Refused r) = refused (r .number) (r .place)
 -- What is handed out for a file whose checks have such an outcome: the answer, and the file's table in arrays where it is accepted
 pub record Reads (s : List ℕ) (o : Outcome Reading) (r : TableAnswer) : Type 0 where
   pub outcome : outcomeOf (r .answer) ≡ o
-  pub accepted : (t : Summary) → r .answer ≡ Table t → (tableIn (r .table) ≡ tableOf s) × Held (r .table)
+  pub accepted : (t : Summary) → r .answer ≡ Table t → (tableIn (r .table) ≡ tableOf s) × Sound (r .table)
   pub refused : (x : Refusal) → r .answer ≡ Refused x → r .table ≡ emptyTable
 
 -- What is found as an answer: the numbers where nothing is

@@ -20,7 +20,8 @@ use Rattle.decoding.proofs.Rooting.{rewarded-next, rewarded-part}
 use Rattle.scoring.specs.declared.roots.Roots.{Roots}
 use Rattle.scoring.specs.Value.{place, gap, rootedSum}
 use Rattle.scoring.specs.Passes.{RootsHeld}
-use Rattle.sweep.specs.Down.{dot, added, rootWeights, rootWeightsOf, rootWeight, Rooted}
+use Rattle.sweep.specs.Down.{dot, added, rootWeights, rootWeightsOf, rootWeight}
+use Rattle.decoding.specs.Decoding.{Rooted}
 use Rattle.sweep.proofs.Transposing.{added-length, dot-added, dot-zeros, dot-term}
 
 pub root-weights-length : (t : Table) (i : ℕ) (ws : List ℕ) → length (rootWeights t i ws) ≡ length ws

@@ -51,11 +51,6 @@ rootWeight t m (suc i) =
     rootWeight t m i
     + cond (eqb (rootAt (t .roots) i .node) m) (rootAt (t .roots) i .reward * gap t 0 (place t (rootAt (t .roots) i .node))) 0
 
--- Every root is a record's node
-abbrev pub Rooted : Table → Type 0
-Rooted t =
-    (i : ℕ) → i < length (t .roots) → (2 ≤ rootAt (t .roots) i .node) × (rootAt (t .roots) i .node < length (t .records) + 2)
-
 -- Node m hands its weight on to its two children
 unfoldable pub handOn : Arcs → (m : ℕ) → (weights : List ℕ) → List ℕ
 handOn a m ws =

@@ -2,9 +2,10 @@
 -- Assumes nothing.
 use mathlib.Core.Path.{_≡_, ap, sym}
 use Rattle.diagram.specs.Services.{Reading, reading, answered}
+use Rattle.diagram.proofs.Checked.{read-passed}
 use Rattle.implication.proofs.Pairing.{fault-of-table}
 use Rattle.reading.specs.Answer.{shapeOutcome}
-use Rattle.reading.proofs.Accepted.{choices-within}
+use Rattle.reading.proofs.Accepted.{choices-within, passed-accepted}
 use Rattle.steps.proofs.Stepping.{fault-none, fault-some}
 use Rattle.reading.proofs.Outcomes.{numbers, refused-as, table-as, shape-refuses, shape-shown, shape-reading, stops-18, past-18, reads-refused, reads-accepted, shown-checkable}
 use borrow.Author.Needs.{needs}
@@ -62,7 +63,8 @@ returns-3 c =
     let s = c .before .before .before .before .before .before .before .before .before .args .file .now in
     let decoded = c .before .before .before .decode .ensures in
     let found = rw (decoded .0, fault-of-table s) at (c .before .before .monotone-fault .ensures) in
-    reads-accepted s _ (decoded .0) (decoded .1) _ (past-18 s _ (shape (c .before .before .before .before)) (fault-none _ found (c .enum-told .given .1)))
+    let read = past-18 s _ (shape (c .before .before .before .before)) (fault-none _ found (c .enum-told .given .1)) in
+    reads-accepted s _ (decoded .0) (record { held = decoded .1; accepted = rw (decoded .0) (passed-accepted (read-passed s _ (sym read))) }) _ read
 
 pub read-table-spec : {M : Type 1} → statement M
 read-table-spec =

@@ -73,7 +73,7 @@ plan-full c = fault-none _ (c .before .before .full-plan-fault .ensures) (c .enu
 upper-bound-requires : tie.Need-upper-bound-requires
 upper-bound-requires c κs =
     let table = c .before .before .before .before .before .before .before .before .before .before .before .before .before .read-table .ensures .accepted _ (c .before .before .before .before .before .before .before .before .before .before .before .answer .given .1) in
-    (file-passed (c .before .before .before .before .before .before .before .before .before .before), ((plan-long (c .before .before .before .before .before), full-legal _ [] (plan-full (c .before .before .before .before .before))), decoded-read (table .0) (table .1)))
+    (file-passed (c .before .before .before .before .before .before .before .before .before .before), ((plan-long (c .before .before .before .before .before), full-legal _ [] (plan-full (c .before .before .before .before .before))), decoded-read (table .0) (table .1 .held)))
 
 returns-4 : tie.Need-returns-4
 unfolding outcomeOf
