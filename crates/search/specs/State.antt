@@ -14,6 +14,7 @@ use Rattle.scoring.specs.declared.roots.Roots.{Roots}
 use Rattle.scoring.specs.Value.{place, highArc, lowArc}
 use Rattle.scoring.specs.Passes.{over, byNode, Decoded, RootsHeld, marksByPosition}
 use Rattle.rule.specs.Rule.{terms, rule}
+use Rattle.incumbent.specs.Tally.{cutoff, roomHeld, visitsCounted}
 use Rattle.layers.specs.Chains.{pick, joined, placed}
 use Rattle.layers.specs.Layers.{Layers}
 use Rattle.layers.specs.Weighed.{Laid}
@@ -78,13 +79,13 @@ numbersFrom lines (suc n) = getD lines (suc n + 42) 0 ∷ numbersFrom lines n
 pub record Holding (t : Table) (budget least : ℕ) (q best tally : List ℕ) : Type 0 where
   pub size : length q ≡ choiceCount (t .variables)
   pub plan : best ≡ padded q
-  pub scored : getD tally 0 0 ≡ scores.score t q
-  pub room : getD tally 1 0 ≡ budget + 1 - cost t q
+  pub scored : cutoff tally ≡ scores.score t q
+  pub room : roomHeld tally ≡ budget + 1 - cost t q
   pub within : cost t q ≤ budget
   pub passes : least ≤ scores.score t q
 
 pub record Holds (t : Table) (budget least : ℕ) (held : Option (List ℕ)) (best tally : List ℕ) : Type 0 where
-  pub nothing : held ≡ none → (getD tally 0 0 ≡ least) × (getD tally 1 0 ≡ 0)
+  pub nothing : held ≡ none → (cutoff tally ≡ least) × (roomHeld tally ≡ 0)
   pub something : (q : List ℕ) → held ≡ some q → Holding t budget least q best tally
 
 -- ---------------------------------------------------------------------------
@@ -136,7 +137,7 @@ ruled g n =
 pub record Visited (g : Scene) (from counted : ℕ) (cells marks cells′ marks′ best′ tally′ : List ℕ) : Type 0 where
   pub sizes : (length cells′ ≡ 512) × (length best′ ≡ 20) × (length tally′ ≡ 3)
   pub holds : Holds (g .table) (g .budget) (g .least) (ruled g counted .held) best′ tally′
-  pub counts : getD tally′ 2 0 ≡ ruled g counted .visits
+  pub counts : visitsCounted tally′ ≡ ruled g counted .visits
   pub kept : marks′ ≡ marks
   pub same : Same from cells cells′
 
@@ -144,7 +145,7 @@ pub record Visited (g : Scene) (from counted : ℕ) (cells marks cells′ marks�
 abbrev pub VisitLeaves : Layers → (losses lines cells marks best tally : List ℕ) → (unsettled room bound : ℕ) → (cells′ marks′ best′ tally′ : List ℕ) → Type 0
 VisitLeaves l losses lines cells marks best tally unsettled room bound cells′ marks′ best′ tally′ =
     (g : Scene) → Visitable g l losses lines cells marks best tally unsettled room bound →
-    Visited g (getD lines unsettled 0) (getD tally 2 0) cells marks cells′ marks′ best′ tally′
+    Visited g (getD lines unsettled 0) (visitsCounted tally) cells marks cells′ marks′ best′ tally′
 
 -- ---------------------------------------------------------------------------
 -- The start and the end of a search
@@ -182,7 +183,7 @@ pub record Arranged (t : Table) (p : List ℕ) (bound : ℕ) (ends order : List 
 -- What a search from plan p leaves is document 01's
 pub record Explored (t : Table) (percent budget least : ℕ) (p best tally : List ℕ) : Type 0 where
   pub holds : Holds t budget least (visits.visited t budget percent p .held) best tally
-  pub counts : getD tally 2 0 ≡ visits.visited t budget percent p .visits
+  pub counts : visitsCounted tally ≡ visits.visited t budget percent p .visits
 
 -- What a search of a file from a plan leaves held and counted, within limits whose least score passes at some percentage
 abbrev pub ExploredWithin : (file plan : List ℕ) → Limits → (best tally : List ℕ) → Type 0

@@ -5,6 +5,9 @@ use crate::visit::visit;
 use cost::cost_of;
 use cost::kits_of;
 use diagram::Plan;
+use incumbent::CUTOFF;
+use incumbent::ROOM;
+use incumbent::VISITS;
 use layers::lay_arcs;
 use layers::order_records;
 use layers::weigh_losses;
@@ -320,9 +323,9 @@ fn first_visit(
     let mut cells = [0u64; 512];
     cells[1] = 1;
     let mut marks = start.marks;
-    tally[0] = limits.least;
-    tally[1] = 0;
-    tally[2] = 0;
+    tally[CUTOFF] = limits.least;
+    tally[ROOM] = 0;
+    tally[VISITS] = 0;
     visit(
         open.count,
         &lines,

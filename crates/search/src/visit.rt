@@ -12,6 +12,7 @@ ghost use mathlib.Core.Path.{_≡_};
 ghost use Prim.Native.Nat.{suc, _+_, _-_, _≤_, _<_, _^_};
 ghost use lib.ListN.{length, getD};
 ghost use Rattle.layers.specs.Layers.{layersOf};
+ghost use Rattle.incumbent.specs.Tally.{visitsCounted};
 ghost use Rattle.search.specs.State.{Scene, Visitable, VisitLeaves};
 
 // Visits a plan with so many unsettled lines, such room and such a bound, whose marks are handed in, and leaves what is held and
@@ -34,7 +35,7 @@ pub fn visit(
 )
     requires sizes { ⌜ (length (now cells) ≡ 512) × (length (now marks) ≡ 20) × (length (now best) ≡ 20) × (length (now tally) ≡ 3) ⌝ }
     requires { ⌜ ((g : Scene) × Visitable g (layersOf (now starts) (now sources) (now arcs)) (now losses) (now lines) (now cells) (now marks) (now best) (now tally) unsettled room bound) ⌝ }
-    requires visits { ⌜ getD (now tally) 2 0 + 2 ^ suc unsettled ≤ 2 ^ 63 ⌝ }
+    requires visits { ⌜ visitsCounted (now tally) + 2 ^ suc unsettled ≤ 2 ^ 63 ⌝ }
     ensures { λ _. ⌜ VisitLeaves (layersOf (now (starts .entry)) (now (sources .entry)) (now (arcs .entry))) (now (losses .entry)) (now (lines .entry)) (now (cells .entry)) (now (marks .entry)) (now (best .entry)) (now (tally .entry)) unsettled room bound (now (cells .exit)) (now (marks .exit)) (now (best .exit)) (now (tally .exit)) ⌝ }
 {
     count(tally);
@@ -104,7 +105,7 @@ fn visit_taken(
 )
     requires sizes { ⌜ (length (now cells) ≡ 512) × (length (now marks) ≡ 20) × (length (now best) ≡ 20) × (length (now tally) ≡ 3) ⌝ }
     requires { ⌜ ((g : Scene) × Visitable g (layersOf (now starts) (now sources) (now arcs)) (now losses) (now lines) (now cells) (now marks) (now best) (now tally) unsettled (room - getD (now lines) (unsettled + 64) 0) bound) ⌝ }
-    requires visits { ⌜ (getD (now tally) 2 0 + 2 ^ suc unsettled ≤ 2 ^ 63) × (unsettled < 20) ⌝ }
+    requires visits { ⌜ (visitsCounted (now tally) + 2 ^ suc unsettled ≤ 2 ^ 63) × (unsettled < 20) ⌝ }
     ensures { λ _. ⌜ VisitLeaves (layersOf (now (starts .entry)) (now (sources .entry)) (now (arcs .entry))) (now (losses .entry)) (now (lines .entry)) (now (cells .entry)) (now (marks .entry)) (now (best .entry)) (now (tally .entry)) unsettled (room - getD (now (lines .entry)) (unsettled + 64) 0) bound (now (cells .exit)) (now (marks .exit)) (now (best .exit)) (now (tally .exit)) ⌝ }
 {
     let kits = line_kits(lines, unsettled);
