@@ -5,6 +5,7 @@ use Prim.Native.Nat.{ℕ, zero, suc, _+_, _-_, _*_, _≤_, _<_, _^_}
 use mathlib.Core.Path.{_≡_}
 use mathlib.Core.List.{List}
 use lib.ListN.{length, getD, set}
+use Rattle.layers.specs.Lines.{firstRank, ownRank, nextRank}
 
 -- By rank: where the arcs into the node begin in the list of all arcs, one node after the other in order. By place in this list: the cell that the arc
 -- starts from, and its weight.
@@ -76,20 +77,23 @@ unfoldable pub leaveNodes : (i n : ℕ) → (cells : List ℕ) → List ℕ
 leaveNodes i zero cells = cells
 leaveNodes i (suc n) cells = leaveNode (i + n) (leaveNodes i n cells)
 
--- The cells after the layer of the lowest of so many unsettled lines, up to the line's own nodes. The array of lines has the layer's ranks: at that place
--- where it begins, 21 places on where the line's own nodes do, one place before where they end.
+-- The cells after the layer of the lowest of so many unsettled lines, up to the line's own nodes
 abbrev pub layerPassed : Layers → (lines : List ℕ) → (unsettled : ℕ) → (cells : List ℕ) → List ℕ
-layerPassed l lines unsettled cells = passNodes l (getD lines unsettled 0) (getD lines (unsettled + 21) 0 - getD lines unsettled 0) cells
+layerPassed l lines n cells = passNodes l (firstRank lines n) (ownRank lines n - firstRank lines n) cells
 
 -- The cells after the whole layer, with the line taken
 abbrev pub layerEntered : Layers → (lines : List ℕ) → (unsettled : ℕ) → (cells : List ℕ) → List ℕ
-layerEntered l lines unsettled cells =
-    ownNodes l (getD lines (unsettled + 21) 0) (getD lines (unsettled - 1) 0 - getD lines (unsettled + 21) 0) (layerPassed l lines unsettled cells)
+layerEntered l lines n cells =
+    ownNodes l (ownRank lines n) (nextRank lines n - ownRank lines n) (layerPassed l lines n cells)
 
 -- What leaving the line loses
 abbrev pub layerDrop : Layers → (losses lines : List ℕ) → (unsettled : ℕ) → (cells : List ℕ) → ℕ
-layerDrop l losses lines unsettled cells =
-    dropSum l losses (getD lines (unsettled + 21) 0) (getD lines (unsettled - 1) 0 - getD lines (unsettled + 21) 0) (layerPassed l lines unsettled cells)
+layerDrop l losses lines n cells =
+    dropSum l losses (ownRank lines n) (nextRank lines n - ownRank lines n) (layerPassed l lines n cells)
+
+-- The cells once the line is left
+abbrev pub lineLeft : (lines : List ℕ) → (unsettled : ℕ) → (cells : List ℕ) → List ℕ
+lineLeft lines n cells = leaveNodes (ownRank lines n) (nextRank lines n - ownRank lines n) cells
 
 -- The layer of an open line: the ranks from the line before it to its own first record, and from there to the one after its last. All sums fit.
 pub record Enterable (l : Layers) (losses : List ℕ) (n from own to : ℕ) (cells : List ℕ) : Type 0 where
@@ -99,3 +103,13 @@ pub record Enterable (l : Layers) (losses : List ℕ) (n from own to : ℕ) (cel
   pub passes : PassFits l from own cells
   pub enters : OwnFits l own to (passNodes l from (own - from) cells)
   pub drops : dropSum l losses own (to - own) (passNodes l from (own - from) cells) ≤ 2 ^ 56
+
+-- The layer of the lowest of so many unsettled lines, at most 20, may be entered
+abbrev pub LayerEnterable : Layers → (losses lines : List ℕ) → (unsettled : ℕ) → (cells : List ℕ) → Type 0
+LayerEnterable l losses lines n cells =
+    (1 ≤ n) × (n ≤ 20) × ((k : ℕ) × Enterable l losses k (firstRank lines n) (ownRank lines n) (nextRank lines n) cells)
+
+-- The line may be left
+abbrev pub LineLeavable : (lines : List ℕ) → (unsettled : ℕ) → (cells : List ℕ) → Type 0
+LineLeavable lines n cells =
+    (1 ≤ n) × (n ≤ 20) × (length cells ≡ 512) × (ownRank lines n ≤ nextRank lines n) × (nextRank lines n ≤ 254)

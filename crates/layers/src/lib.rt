@@ -3,12 +3,16 @@
 // one open line to the next, over the nodes between the two.
 mod chains;
 mod lay;
+mod lines;
 mod order;
 mod walk;
 mod weigh;
 
 pub use lay::lay_arcs;
+pub use lines::KITS;
+pub use lines::NUMBER;
+pub use lines::OWN;
 pub use order::order_records;
 pub use walk::enter_layer;
-pub use walk::leave_layer;
+pub use walk::leave_line;
 pub use weigh::weigh_losses;

@@ -16,6 +16,7 @@ use Rattle.scoring.specs.Passes.{over, byNode, Decoded, RootsHeld, marksByPosit
 use Rattle.rule.specs.Rule.{terms, rule}
 use Rattle.incumbent.specs.Tally.{cutoff, roomHeld, visitsCounted}
 use Rattle.layers.specs.Chains.{pick, joined, placed}
+use Rattle.layers.specs.Lines.{firstRank, ownRank, nextRank, lineNumber, lineKits}
 use Rattle.layers.specs.Layers.{Layers}
 use Rattle.layers.specs.Weighed.{Laid}
 use Rattle.layers.specs.Flows.{Layered, Line, Settles, Right, Same, rankSum, atSum}
@@ -60,16 +61,16 @@ priced kits t = record { variables = t .variables; records = t .records; kits = 
 
 -- What `line_ranks` writes for the first `count` lines of a list
 pub record Ranked (count : ℕ) (numbers places ends kits lines : List ℕ) : Type 0 where
-  pub first : getD lines count 0 ≡ 0
-  pub own : (i : ℕ) → i < count → getD lines (count - i + 21) 0 ≡ getD ends (getD places (getD numbers i 0) 0) 0
-  pub to : (i : ℕ) → i < count → getD lines (count - i - 1) 0 ≡ getD ends (getD places (getD numbers i 0) 0 + 1) 0
-  pub number : (i : ℕ) → i < count → getD lines (count - i + 42) 0 ≡ getD numbers i 0
-  pub priced : (i : ℕ) → i < count → getD lines (count - i + 63) 0 ≡ getD kits (getD numbers i 0) 0
+  pub first : firstRank lines count ≡ 0
+  pub own : (i : ℕ) → i < count → ownRank lines (count - i) ≡ getD ends (getD places (getD numbers i 0) 0) 0
+  pub next : (i : ℕ) → i < count → nextRank lines (count - i) ≡ getD ends (getD places (getD numbers i 0) 0 + 1) 0
+  pub number : (i : ℕ) → i < count → lineNumber lines (count - i) ≡ getD numbers i 0
+  pub priced : (i : ℕ) → i < count → lineKits lines (count - i) ≡ getD kits (getD numbers i 0) 0
 
 -- The numbers of the lowest n lines of which `lines` has the ranks
 unfoldable pub numbersFrom : (lines : List ℕ) → (n : ℕ) → List ℕ
 numbersFrom lines zero = []
-numbersFrom lines (suc n) = getD lines (suc n + 42) 0 ∷ numbersFrom lines n
+numbersFrom lines (suc n) = lineNumber lines (suc n) ∷ numbersFrom lines n
 
 -- ---------------------------------------------------------------------------
 -- What is held
@@ -108,8 +109,8 @@ pub record Ground (g : Scene) (l : Layers) (losses lines : List ℕ) : Type 0 wh
   pub passing : LeastPassing (g .table) (g .percent) (g .least)
   pub few : choiceCount (g .table .variables) ≤ 20
   pub layered : Layered (g .table) (g .start) (g .order) l losses
-  pub layer : (n : ℕ) → n < openCount (g .start) → Line (g .table) (g .start) (g .order) (getD lines (n + 1) 0) (getD lines (n + 22) 0) (getD lines n 0) (getD lines (n + 43) 0)
-  pub priced : (n : ℕ) → n < openCount (g .start) → getD lines (n + 64) 0 ≡ getD (g .table .kits) (getD lines (n + 43) 0) 0
+  pub layer : (n : ℕ) → 1 ≤ n → n ≤ openCount (g .start) → Line (g .table) (g .start) (g .order) (firstRank lines n) (ownRank lines n) (nextRank lines n) (lineNumber lines n)
+  pub priced : (n : ℕ) → 1 ≤ n → n ≤ openCount (g .start) → lineKits lines n ≡ getD (g .table .kits) (lineNumber lines n) 0
 
 -- What is handed to a visit: the plan's marks, its open lines, its room and its bound, and cells that are right before the lowest open line's layer
 pub record Stands (g : Scene) (lines cells marks : List ℕ) (unsettled room bound : ℕ) : Type 0 where
@@ -119,7 +120,7 @@ pub record Stands (g : Scene) (lines cells marks : List ℕ) (unsettled room bou
   pub few : unsettled ≤ openCount (g .start)
   pub affords : room ≡ g .budget + 1 - cost (g .table) (g .plan)
   pub bounded : bound ≡ upperBound (g .table) (g .plan)
-  pub right : Right (g .table) (g .start) (openTaken (g .plan)) (g .order) (getD lines unsettled 0) cells
+  pub right : Right (g .table) (g .start) (openTaken (g .plan)) (g .order) (firstRank lines unsettled) cells
   pub rooted : getD cells 1 0 ≡ 1
 
 -- All that a visit is handed
@@ -145,7 +146,7 @@ pub record Visited (g : Scene) (from counted : ℕ) (cells marks cells′ marks�
 abbrev pub VisitLeaves : Layers → (losses lines cells marks best tally : List ℕ) → (unsettled room bound : ℕ) → (cells′ marks′ best′ tally′ : List ℕ) → Type 0
 VisitLeaves l losses lines cells marks best tally unsettled room bound cells′ marks′ best′ tally′ =
     (g : Scene) → Visitable g l losses lines cells marks best tally unsettled room bound →
-    Visited g (getD lines unsettled 0) (visitsCounted tally) cells marks cells′ marks′ best′ tally′
+    Visited g (firstRank lines unsettled) (visitsCounted tally) cells marks cells′ marks′ best′ tally′
 
 -- ---------------------------------------------------------------------------
 -- The start and the end of a search
