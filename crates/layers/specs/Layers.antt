@@ -1,10 +1,9 @@
--- A table laid out for a search, and what a visit does with it. The nodes stand in order of position; a node's place in this order is its rank. The node
--- at rank i has two cells: cell i + 2 has what its hi arc hands on, cell i + 258 what its lo arc hands on, both before the arc's own weight. Cell 1 has
--- 1, and the roots' arcs start from it.
+-- A table laid out for a search, and what a visit does with it. The nodes stand in order of position; a node's place in this order is its rank.
 use Prim.Native.Nat.{ℕ, zero, suc, _+_, _-_, _*_, _≤_, _<_, _^_}
 use mathlib.Core.Path.{_≡_}
 use mathlib.Core.List.{List}
 use lib.ListN.{length, getD, set}
+use Rattle.layers.specs.Cells.{highCell, lowCell}
 use Rattle.layers.specs.Lines.{firstRank, ownRank, nextRank}
 
 -- By rank: where the arcs into the node begin in the list of all arcs, one node after the other in order. By place in this list: the cell that the arc
@@ -36,7 +35,7 @@ inflow l cells i =
 
 -- The two cells of the node at rank i written
 abbrev pub put : (cells : List ℕ) → (i x y : ℕ) → List ℕ
-put cells i x y = set (set cells (i + 2) x) (i + 258) y
+put cells i x y = set (set cells (highCell i) x) (lowCell i) y
 
 -- The node at rank i hands on what comes to it, by both arcs
 unfoldable pub passNode : Layers → (i : ℕ) → (cells : List ℕ) → List ℕ
@@ -71,7 +70,7 @@ dropSum l losses i (suc n) cells =
 
 -- The line of the node at rank i is left: what its hi arc has handed on goes by its lo arc
 unfoldable pub leaveNode : (i : ℕ) → (cells : List ℕ) → List ℕ
-leaveNode i cells = put cells i 0 (getD cells (i + 2) 0)
+leaveNode i cells = put cells i 0 (getD cells (highCell i) 0)
 
 unfoldable pub leaveNodes : (i n : ℕ) → (cells : List ℕ) → List ℕ
 leaveNodes i zero cells = cells

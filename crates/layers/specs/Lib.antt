@@ -2,6 +2,7 @@
 pub mod Weights
 pub mod Chains
 pub mod Lines
+pub mod Cells
 pub mod Layers
 pub mod Flows
 pub mod Weighed

@@ -8,6 +8,7 @@ use lib.Dec.{eqb}
 use Rattle.diagram.specs.Table.{sequence}
 use Rattle.scoring.specs.Passes.{over, highInForce, markAtNode}
 use Rattle.scoring.specs.declared.roots.Roots.{Roots}
+use Rattle.layers.specs.Cells.{highCell, lowCell, rootCell, highArcNumber, lowArcNumber, lowArcOf, rootArcNumber}
 use Rattle.layers.specs.Chains.{placed, arcsInOrder}
 use Rattle.layers.specs.Layers.{Layers}
 use Rattle.layers.specs.Flows.{lowKept}
@@ -16,20 +17,20 @@ use Rattle.layers.specs.Flows.{lowKept}
 pub record Weighted (n : ℕ) (high low : ℕ → ℕ) (weights : List ℕ) : Type 0 where
   pub long : length weights ≡ 544
   pub none : getD weights 0 0 ≡ 0
-  pub highs : (k : ℕ) → k < n → getD weights (k + 2) 0 ≡ high k
-  pub lows : (k : ℕ) → k < n → getD weights (k + 258) 0 ≡ low k
+  pub highs : (k : ℕ) → k < n → getD weights (highArcNumber k) 0 ≡ high k
+  pub lows : (k : ℕ) → k < n → getD weights (lowArcNumber k) 0 ≡ low k
 
 -- The weights of the first n roots' arcs are written, and no other weight
 pub record Brought (n : ℕ) (brought weights weights′ : List ℕ) : Type 0 where
   pub long : length weights′ ≡ 544
-  pub roots : (i : ℕ) → i < n → getD weights′ (i + 514) 0 ≡ getD brought (i + 2) 0
+  pub roots : (i : ℕ) → i < n → getD weights′ (rootArcNumber i) 0 ≡ getD brought (i + 2) 0
   pub others : (a : ℕ) → a < 514 → getD weights′ a 0 ≡ getD weights a 0
 
--- The cells of the arcs of n nodes in order, by the arcs' numbers; all roots' arcs start from cell 1
+-- The cells of the arcs of n nodes in order, by the arcs' numbers; all roots' arcs start from one cell
 pub record Numbered (n : ℕ) (order numbers : List ℕ) : Type 0 where
-  pub roots : (i : ℕ) → i < 16 → getD numbers (i + 514) 0 ≡ 1
-  pub highs : (i : ℕ) → i < n → getD numbers (getD order i 0) 0 ≡ i + 2
-  pub lows : (i : ℕ) → i < n → getD numbers (getD order i 0 + 256) 0 ≡ i + 258
+  pub roots : (i : ℕ) → i < 16 → getD numbers (rootArcNumber i) 0 ≡ rootCell
+  pub highs : (i : ℕ) → i < n → getD numbers (getD order i 0) 0 ≡ highCell i
+  pub lows : (i : ℕ) → i < n → getD numbers (lowArcOf (getD order i 0)) 0 ≡ lowCell i
   pub few : (a : ℕ) → getD numbers a 0 < 512
 
 -- The arcs into n nodes in order, laid out: the list of their numbers, and for each arc of it its weight and the cell that it starts from
@@ -39,7 +40,7 @@ pub record Laid (n : ℕ) (rs : Roots) (positions high low highArcs lowArcs mark
   pub started : l .starts ≡ over (sequence (λ x. length (arcsInOrder high low rs order n x)) 0 (n + 1)) (replicate 256 0)
   pub weights : List ℕ
   pub weighed : Weighted n (λ k. highInForce (markAtNode positions marks k) (getD highArcs (k + 2) 0)) (λ k. lowKept (markAtNode positions marks k) (getD lowArcs (k + 2) 0)) weights
-  pub brought : (i : ℕ) → i < rs .count → getD weights (i + 514) 0 ≡ getD (rs .weights) (i + 2) 0
+  pub brought : (i : ℕ) → i < rs .count → getD weights (rootArcNumber i) 0 ≡ getD (rs .weights) (i + 2) 0
   pub numbers : List ℕ
   pub numbered : Numbered n order numbers
   pub arcs : l .arcs ≡ over (sequence (λ j. getD weights (getD list j 0) 0) 0 (getD (l .starts) n 0)) (replicate 1040 0)

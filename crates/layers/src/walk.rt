@@ -1,4 +1,6 @@
 // The walk of a visit over one layer: from the line before to an open line, and over that line's own nodes.
+use crate::cells::HIGH_CELLS;
+use crate::cells::LOW_CELLS;
 use crate::lines::OWN;
 ghost use mathlib.Core.Path.{_≡_};
 ghost use Prim.Native.Nat.{ℕ, suc, _+_, _-_, _≤_, _<_, _^_};
@@ -88,7 +90,7 @@ pub fn leave_line(lines: &[u16; 84], cells: &mut [u64; 512], unsettled: usize)
     let next = index(lines[unsettled - 1]);
     let mut i = index(lines[unsettled + OWN]);
     while i < next {
-        let w = cells[i + 2];
+        let w = cells[i + HIGH_CELLS];
         put_both(cells, i, 0, w);
         i += 1;
     }
@@ -114,8 +116,8 @@ fn put_both(cells: &mut [u64; 512], i: usize, high: u64, low: u64)
     requires { ⌜ (i < 254) × (length (now cells) ≡ 512) ⌝ }
     ensures { λ _. ⌜ now (cells .exit) ≡ put (now (cells .entry)) i high low ⌝ }
 {
-    cells[i + 2] = high;
-    cells[i + 258] = low;
+    cells[i + HIGH_CELLS] = high;
+    cells[i + LOW_CELLS] = low;
 }
 
 // What the arcs from one place of their list to another bring, which are one pair or more.

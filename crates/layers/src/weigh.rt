@@ -1,4 +1,10 @@
 // The weights of the arcs during a search, the cells that they start from, and what leaving a line loses at each of its nodes.
+use crate::cells::HIGH_ARCS;
+use crate::cells::HIGH_CELLS;
+use crate::cells::LOW_ARCS;
+use crate::cells::LOW_CELLS;
+use crate::cells::LOW_OFFSET;
+use crate::cells::ROOT_ARCS;
 use diagram::Node;
 use diagram::Plan;
 use reading::child_of;
@@ -12,6 +18,7 @@ ghost use Prim.Native.Nat.{ℕ, _+_, _*_, _≤_, _<_, _^_};
 ghost use lib.ListN.{length, getD, set, replicate};
 ghost use Rattle.diagram.specs.Table.{sequence};
 ghost use Rattle.scoring.specs.Passes.{over, highInForce, markAtNode};
+ghost use Rattle.layers.specs.Cells.{highCell, lowCell, lowArcOf};
 ghost use Rattle.layers.specs.Flows.{lowKept};
 ghost use Rattle.layers.specs.Weighed.{Brought, Weighted, Numbered, lossOf};
 
@@ -33,8 +40,8 @@ pub fn weigh_arcs(
     let mut k = 0;
     while k < n {
         let mark = mark_of(positions, marks, Node::of_record(k));
-        weights[k + 2] = high_weight(mark, high_arcs[k + 2]);
-        weights[k + 258] = low_kept(mark, low_arcs[k + 2]);
+        weights[k + HIGH_ARCS] = high_weight(mark, high_arcs[k + 2]);
+        weights[k + LOW_ARCS] = low_kept(mark, low_arcs[k + 2]);
         k += 1;
     }
 }
@@ -46,7 +53,7 @@ pub fn weigh_roots(roots: Roots, weights: &mut [u64; 544])
 {
     let mut i = 0;
     while i < roots.count {
-        weights[i + 514] = roots.weights[i + 2];
+        weights[i + ROOT_ARCS] = roots.weights[i + 2];
         i += 1;
     }
 }
@@ -84,11 +91,11 @@ pub fn number_cells(n: usize, order: &[u16; 1040], numbers: &mut [u16; 544])
 // Writes the cells of the arcs of the node at a rank.
 fn number_node(numbers: &mut [u16; 544], node: Node, i: usize)
     requires { ⌜ (i < 254) × (length (now numbers) ≡ 544) ⌝ }
-    ensures { λ _. ⌜ now (numbers .exit) ≡ set (set (now (numbers .entry)) (node .0) (i + 2)) (node .0 + 256) (i + 258) ⌝ }
+    ensures { λ _. ⌜ now (numbers .exit) ≡ set (set (now (numbers .entry)) (node .0) (highCell i)) (lowArcOf (node .0)) (lowCell i) ⌝ }
 {
     let m = node.number();
-    numbers[m] = i as u16 + 2;
-    numbers[m + 256] = i as u16 + 258;
+    numbers[m] = (i + HIGH_CELLS) as u16;
+    numbers[m + LOW_OFFSET] = (i + LOW_CELLS) as u16;
 }
 
 // The weights of the first `count` arcs of a list, which has arcs' numbers alone, as `order_arcs` leaves it.

@@ -16,6 +16,7 @@ use Rattle.scoring.specs.Passes.{over, byNode, Decoded, RootsHeld, marksByPosit
 use Rattle.rule.specs.Rule.{terms, rule}
 use Rattle.incumbent.specs.Tally.{cutoff, roomHeld, visitsCounted}
 use Rattle.layers.specs.Chains.{pick, joined, placed}
+use Rattle.layers.specs.Cells.{rootCell}
 use Rattle.layers.specs.Lines.{firstRank, ownRank, nextRank, lineNumber, lineKits}
 use Rattle.layers.specs.Layers.{Layers}
 use Rattle.layers.specs.Weighed.{Laid}
@@ -121,7 +122,7 @@ pub record Stands (g : Scene) (lines cells marks : List ℕ) (unsettled room bou
   pub affords : room ≡ g .budget + 1 - cost (g .table) (g .plan)
   pub bounded : bound ≡ upperBound (g .table) (g .plan)
   pub right : Right (g .table) (g .start) (openTaken (g .plan)) (g .order) (firstRank lines unsettled) cells
-  pub rooted : getD cells 1 0 ≡ 1
+  pub rooted : getD cells rootCell 0 ≡ 1
 
 -- All that a visit is handed
 pub record Visitable (g : Scene) (l : Layers) (losses lines cells marks best tally : List ℕ) (unsettled room bound : ℕ) : Type 0 where

@@ -8,6 +8,7 @@ use diagram::Plan;
 use incumbent::CUTOFF;
 use incumbent::ROOM;
 use incumbent::VISITS;
+use layers::ROOT_CELL;
 use layers::lay_arcs;
 use layers::order_records;
 use layers::weigh_losses;
@@ -321,7 +322,7 @@ fn first_visit(
     let mut lines = [0u16; 84];
     line_ranks(open.count, &numbers, &places, ends, &kits, &mut lines);
     let mut cells = [0u64; 512];
-    cells[1] = 1;
+    cells[ROOT_CELL] = 1;
     let mut marks = start.marks;
     tally[CUTOFF] = limits.least;
     tally[ROOM] = 0;
