@@ -4,12 +4,12 @@
 use diagram::Plan;
 use diagram::passes;
 ghost use mathlib.Core.Path.{_≡_};
-ghost use mathlib.Core.Bool.{cond, not, _||_};
+ghost use mathlib.Core.Bool.{not, _||_};
 ghost use Prim.Native.Nat.{_<_, _^_};
 ghost use lib.ListN.{length};
 ghost use lib.Dec.{eqb, leb};
 ghost use Rattle.diagram.specs.Ranking.{takesFirst};
-ghost use Rattle.incumbent.specs.Tally.{cutoff, visitsCounted, visitAdded, planHeld, ranksOverHeld};
+ghost use Rattle.incumbent.specs.Tally.{cutoff, visitsCounted, visitAdded, ranksOverHeld, bestKept, tallyKept};
 
 // The places of the three numbers.
 pub const CUTOFF: usize = 0;
@@ -49,8 +49,8 @@ pub fn is_beaten(tally: &[u64; 3], bound: u64) -> bool
 // `visit` keeps them.
 pub fn keep(marks: &[u8; 20], best: &mut [u8; 20], tally: &mut [u64; 3], room: u64, bound: u64)
     requires { ⌜ (length (now marks) ≡ 20) × (length (now best) ≡ 20) × (length (now tally) ≡ 3) ⌝ }
-    ensures best { λ _. ⌜ now (best .exit) ≡ cond (ranksOverHeld bound room (now (marks .entry)) (now (tally .entry)) (now (best .entry))) (now (marks .entry)) (now (best .entry)) ⌝ }
-    ensures tally { λ _. ⌜ now (tally .exit) ≡ cond (ranksOverHeld bound room (now (marks .entry)) (now (tally .entry)) (now (best .entry))) (planHeld bound room (now (tally .entry))) (now (tally .entry)) ⌝ }
+    ensures best { λ _. ⌜ now (best .exit) ≡ bestKept bound room (now (marks .entry)) (now (tally .entry)) (now (best .entry)) ⌝ }
+    ensures tally { λ _. ⌜ now (tally .exit) ≡ tallyKept bound room (now (marks .entry)) (now (tally .entry)) (now (best .entry)) ⌝ }
 {
     if !ranks_before(marks, best, tally, room, bound) {
         return;

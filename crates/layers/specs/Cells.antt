@@ -21,10 +21,17 @@ highArcNumber k = k + 2
 abbrev pub lowArcNumber : (k : ℕ) → ℕ
 lowArcNumber k = k + 258
 
--- of node m's lo arc
-abbrev pub lowArcOf : (m : ℕ) → ℕ
-lowArcOf m = m + 256
-
 -- and of the arc of root i, from 0, which brings its weight to its node
 abbrev pub rootArcNumber : (i : ℕ) → ℕ
 rootArcNumber i = i + 514
+
+-- How much larger the number of a node's lo arc is than the node's
+abbrev pub lowOffset : ℕ
+lowOffset = 256
+
+abbrev pub lowArcOf : (m : ℕ) → ℕ
+lowArcOf m = m + lowOffset
+
+-- and that of root i's arc than i + 2
+abbrev pub rootOffset : ℕ
+rootOffset = 512

@@ -28,6 +28,14 @@ unfoldable pub flowSum : (sources arcs cells : List ℕ) → (j n : ℕ) → ℕ
 flowSum ss ws cells j zero = 0
 flowSum ss ws cells j (suc n) = flowSum ss ws cells j n + getD cells (getD ss (j + n) 0) 0 * getD ws (j + n) 0
 
+-- The arcs from one place of their list to another are pairs, one or more, within their arrays, and what they bring fits
+abbrev pub FlowFits : (sources arcs cells : List ℕ) → (from to : ℕ) → Type 0
+FlowFits ss ws cells from to =
+    ((m : ℕ) × (to ≡ from + suc m + suc m))
+    × (to ≤ 1040)
+    × ((j : ℕ) → getD ss j 0 < 512)
+    × (flowSum ss ws cells from (to - from) ≤ 2 ^ 56)
+
 -- What all arcs into the node at rank i bring
 unfoldable pub inflow : Layers → (cells : List ℕ) → (i : ℕ) → ℕ
 inflow l cells i =
@@ -62,11 +70,23 @@ PassFits l from to cells = (i : ℕ) → from + i < to → inflow l (passNodes l
 abbrev pub OwnFits : Layers → (from to : ℕ) → (cells : List ℕ) → Type 0
 OwnFits l from to cells = (i : ℕ) → from + i < to → inflow l (ownNodes l from i cells) (from + i) ≤ 2 ^ 56
 
+-- The nodes from one rank to another may be passed
+abbrev pub Passable : Layers → (from to : ℕ) → (cells : List ℕ) → Type 0
+Passable l from to cells =
+    (from ≤ to) × (length cells ≡ 512) × ((n : ℕ) × Sized l n × (to ≤ n) × PassFits l from to cells)
+
 -- What leaving the line of n nodes from rank i on loses: at each node what comes to it, times its loss
 unfoldable pub dropSum : Layers → (losses : List ℕ) → (i n : ℕ) → (cells : List ℕ) → ℕ
 dropSum l losses i zero cells = 0
 dropSum l losses i (suc n) cells =
     dropSum l losses i n cells + inflow l (ownNodes l i n cells) (i + n) * getD losses (i + n) 0
+
+-- The nodes of an open line, from one rank to another, may be entered
+abbrev pub OwnEnterable : Layers → (losses : List ℕ) → (from to : ℕ) → (cells : List ℕ) → Type 0
+OwnEnterable l losses from to cells =
+    (from ≤ to)
+    × (length cells ≡ 512)
+    × ((n : ℕ) × Sized l n × (to ≤ n) × OwnFits l from to cells × (dropSum l losses from (to - from) cells ≤ 2 ^ 56))
 
 -- The line of the node at rank i is left: what its hi arc has handed on goes by its lo arc
 unfoldable pub leaveNode : (i : ℕ) → (cells : List ℕ) → List ℕ

@@ -3,9 +3,9 @@ use crate::cells::HIGH_CELLS;
 use crate::cells::LOW_CELLS;
 use crate::lines::OWN;
 ghost use mathlib.Core.Path.{_≡_};
-ghost use Prim.Native.Nat.{ℕ, suc, _+_, _-_, _≤_, _<_, _^_};
+ghost use Prim.Native.Nat.{ℕ, _+_, _-_, _≤_, _<_, _^_};
 ghost use lib.ListN.{length, getD};
-ghost use Rattle.layers.specs.Layers.{layersOf, Sized, flowSum, put, passNodes, PassFits, ownNodes, OwnFits, dropSum, layerEntered, layerDrop, lineLeft, LayerEnterable, LineLeavable};
+ghost use Rattle.layers.specs.Layers.{layersOf, flowSum, FlowFits, put, passNodes, Passable, ownNodes, dropSum, OwnEnterable, layerEntered, layerDrop, lineLeft, LayerEnterable, LineLeavable};
 
 // Enters the layer of the lowest of `unsettled` open lines, whose ranks `lines` has: the nodes before the line hand their weights on
 // by both arcs, the line's own by their hi arcs, as if it were taken. Answers what leaving the line loses. The arrays
@@ -39,7 +39,7 @@ fn pass(
     from: usize,
     to: usize,
 )
-    requires { ⌜ (from ≤ to) × (length (now cells) ≡ 512) × ((n : ℕ) × Sized (layersOf (now starts) (now sources) (now arcs)) n × (to ≤ n) × PassFits (layersOf (now starts) (now sources) (now arcs)) from to (now cells)) ⌝ }
+    requires { ⌜ Passable (layersOf (now starts) (now sources) (now arcs)) from to (now cells) ⌝ }
     ensures { λ _. ⌜ now (cells .exit) ≡ passNodes (layersOf (now (starts .entry)) (now (sources .entry)) (now (arcs .entry))) from (to - from) (now (cells .entry)) ⌝ }
 {
     let mut at = start_of(starts, from);
@@ -63,7 +63,7 @@ fn enter(
     from: usize,
     to: usize,
 ) -> u64
-    requires { ⌜ (from ≤ to) × (length (now cells) ≡ 512) × ((n : ℕ) × Sized (layersOf (now starts) (now sources) (now arcs)) n × (to ≤ n) × OwnFits (layersOf (now starts) (now sources) (now arcs)) from to (now cells) × (dropSum (layersOf (now starts) (now sources) (now arcs)) (now losses) from (to - from) (now cells) ≤ 2 ^ 56)) ⌝ }
+    requires { ⌜ OwnEnterable (layersOf (now starts) (now sources) (now arcs)) (now losses) from to (now cells) ⌝ }
     ensures drop { λ r. ⌜ r ≡ dropSum (layersOf (now (starts .entry)) (now (sources .entry)) (now (arcs .entry))) (now (losses .entry)) from (to - from) (now (cells .entry)) ⌝ }
     ensures cells { λ _. ⌜ now (cells .exit) ≡ ownNodes (layersOf (now (starts .entry)) (now (sources .entry)) (now (arcs .entry))) from (to - from) (now (cells .entry)) ⌝ }
 {
@@ -128,7 +128,7 @@ fn flow(
     from: usize,
     to: usize,
 ) -> u64
-    requires { ⌜ ((m : ℕ) × (to ≡ from + suc m + suc m)) × (to ≤ 1040) × ((j : ℕ) → getD (now sources) j 0 < 512) × (flowSum (now sources) (now arcs) (now cells) from (to - from) ≤ 2 ^ 56) ⌝ }
+    requires { ⌜ FlowFits (now sources) (now arcs) (now cells) from to ⌝ }
     ensures { λ r. ⌜ r ≡ flowSum (now (sources .entry)) (now (arcs .entry)) (now (cells .entry)) from (to - from) ⌝ }
 {
     let mut w = pair(sources, arcs, cells, from);

@@ -35,7 +35,7 @@ use Rattle.layers.specs.Chains.{pick, joined, placed}
 use Rattle.layers.specs.Layers.{Layers}
 use Rattle.layers.specs.Flows.{Stand, Line}
 use Rattle.layers.specs.Lines.{firstRank, ownRank, nextRank, lineNumber, lineKits}
-use Rattle.search.specs.State.{priced, rows, padded, openFrom, openLines, choicePosition, Ranked, numbersFrom, Holds, Scene, Visitable, ruled, Visited, Arrays, Ending, Arranged, Explored}
+use Rattle.search.specs.State.{priced, rows, padded, openFrom, openLines, choicePosition, Ranked, numbersFrom, Holds, Scene, Visitable, ruled, Visited, Arrays, Ending, Arranged, Searched}
 use Rattle.search.proofs.OpenLines.{lines-length}
 use Rattle.search.proofs.Priced.{priced-formed, priced-monotone, priced-bound, priced-passing, priced-layered, priced-line}
 use Rattle.layers.proofs.Ordering.{nodesAt, position-below, ends-rising, ends-mono, before-position, at-position, after-position, position-sum}
@@ -376,7 +376,7 @@ module _ {s p : List ℕ} (passed : Passed s) (long : length p ≡ choiceCount (
   first-room e = omega (arith, e, pow-mono {i = suc count} {j = 21} (omega (arith, ready .listed .0)))
 
 -- what the first visit leaves is what document 01's search does
-pub first-explored : {s p : List ℕ} → Passed s → (kits : List ℕ) → {percent budget least from counted : ℕ} {order cells marks cells′ marks′ best tally : List ℕ} → counted ≡ 0 → Visited (firstScene kits s p order percent budget least) from counted cells marks cells′ marks′ best tally → Explored (priced (take (length p) kits) (tableOf s)) percent budget least p best tally
+pub first-explored : {s p : List ℕ} → Passed s → (kits : List ℕ) → {percent budget least from counted : ℕ} {order cells marks cells′ marks′ best tally : List ℕ} → counted ≡ 0 → Visited (firstScene kits s p order percent budget least) from counted cells marks cells′ marks′ best tally → Searched (priced (take (length p) kits) (tableOf s)) percent budget least p best tally
 first-explored {s} {p} passed kits {percent} {budget} {least} {from} {counted} {order} e v =
     let list = take (length p) kits in
     let t = priced list (tableOf s) in

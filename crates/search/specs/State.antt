@@ -183,7 +183,7 @@ pub record Arranged (t : Table) (p : List ℕ) (bound : ℕ) (ends order : List 
   pub ending : Ending t order ends
 
 -- What a search from plan p leaves is document 01's
-pub record Explored (t : Table) (percent budget least : ℕ) (p best tally : List ℕ) : Type 0 where
+pub record Searched (t : Table) (percent budget least : ℕ) (p best tally : List ℕ) : Type 0 where
   pub holds : Holds t budget least (visits.visited t budget percent p .held) best tally
   pub counts : visitsCounted tally ≡ visits.visited t budget percent p .visits
 
@@ -191,4 +191,4 @@ pub record Explored (t : Table) (percent budget least : ℕ) (p best tally : Lis
 abbrev pub ExploredWithin : (file plan : List ℕ) → Limits → (best tally : List ℕ) → Type 0
 ExploredWithin file plan limits best tally =
     (percent : ℕ) → LeastPassing (tableOf file) percent (limits .least) →
-    Explored (priced (take (length plan) (limits .kits)) (tableOf file)) percent (limits .budget) (limits .least) plan best tally
+    Searched (priced (take (length plan) (limits .kits)) (tableOf file)) percent (limits .budget) (limits .least) plan best tally

@@ -5,25 +5,17 @@ use native.Mathlib.Omega.{arith}
 use mathlib.Core.Path.{_≡_, _∙_}
 use mathlib.Core.List.{List}
 use lib.ListN.{length, getD, length-set}
-use Rattle.scoring.specs.Passes.{highInForce, markAtNode}
-use Rattle.layers.specs.Flows.{lowKept}
-use Rattle.layers.specs.Weighed.{Weighted}
+use Rattle.scoring.specs.Passes.{markAtNode}
+use Rattle.layers.specs.Weighed.{highKeptAt, lowKeptAt, Weighted}
 use Rattle.layers.proofs.Weighing.{weigh-none, weigh-next, weigh-all}
 use Rattle.layers.proofs.weigh.weigh_arcs.Statement.{statement}
 use Rattle.layers.proofs.weigh.weigh_arcs.Tie as tie
-
--- the weights of record k's arcs
-abbrev high : (positions marks arcs : List ℕ) → ℕ → ℕ
-high ps ms ws k = highInForce (markAtNode ps ms k) (getD ws (k + 2) 0)
-
-abbrev low : (positions marks arcs : List ℕ) → ℕ → ℕ
-low ps ms ws k = lowKept (markAtNode ps ms k) (getD ws (k + 2) 0)
 
 abbrev Inv-loop : tie.InvT-loop
 Inv-loop n positions marks high-arcs low-arcs weights₀ k₀ weights k =
     (k ≤ n)
     × (length weights ≡ 544)
-    × Weighted k (high positions marks high-arcs) (low positions marks low-arcs) weights
+    × Weighted k (highKeptAt positions marks high-arcs) (lowKeptAt positions marks low-arcs) weights
 
 abbrev μ-loop : tie.MeasureT-loop
 μ-loop n positions marks high-arcs low-arcs weights₀ k₀ weights k = n - k
