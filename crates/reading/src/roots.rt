@@ -2,6 +2,7 @@
 use crate::answer::Bounded;
 use crate::variables::exceeds;
 use crate::words::root_word_count;
+use diagram::MOST_REWARD;
 use diagram::Node;
 use diagram::field_p;
 use diagram::field_q;
@@ -60,7 +61,7 @@ fn is_root_word(n: usize, w: u32) -> bool
     if reward < 1 {
         return false;
     }
-    if 64 < reward {
+    if MOST_REWARD < reward {
         return false;
     }
     let node = field_r(w);

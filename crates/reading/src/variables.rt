@@ -1,5 +1,9 @@
 // The checks 14 to 16: the variable words, the number of choices and the product of b.
 use crate::answer::Bounded;
+use diagram::MOST_MORE_KITS;
+use diagram::MOST_PARTS;
+use diagram::MOST_SCALE;
+use diagram::Plan;
 use diagram::Position;
 use diagram::field_p;
 use diagram::field_q;
@@ -45,7 +49,7 @@ fn is_variable_word(at: Position, w: u32) -> bool
         if a != 0 {
             return false;
         }
-        return b <= 500;
+        return b <= MOST_MORE_KITS;
     }
     if kind(w) != 3 {
         return false;
@@ -53,7 +57,7 @@ fn is_variable_word(at: Position, w: u32) -> bool
     if b < 1 {
         return false;
     }
-    if 1000 < b {
+    if MOST_PARTS < b {
         return false;
     }
     a <= b
@@ -69,7 +73,7 @@ pub fn choices(file: &[u8]) -> Bounded
     while p < v {
         let at = Position::new(p);
         if is_choice(file, at) {
-            if count == 20 {
+            if count == Plan::MOST as u64 {
                 return Bounded::Above(at.word());
             }
             count += 1;
@@ -107,5 +111,5 @@ pub fn exceeds(x: u64, b: u64) -> bool
     if b == 0 {
         return false;
     }
-    72057594037927936 / b < x
+    MOST_SCALE / b < x
 }
