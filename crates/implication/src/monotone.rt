@@ -19,7 +19,7 @@ ghost use lib.Dec.{eqb};
 ghost use Rattle.diagram.specs.Table.{recordCount};
 ghost use Rattle.diagram.specs.Checks.{monotoneFault};
 ghost use Rattle.implication.specs.Answer.{faultOf};
-ghost use Rattle.implication.specs.Nodes.{Held, next, isKnown, cell, zeros, Marked, Room, Stack, Explored};
+ghost use Rattle.implication.specs.Nodes.{Held, next, isKnown, cell, zeros, Met, Room, Stack, Explored};
 
 // Check 18. The arrays hold the records of a file that the checks before let through.
 pub fn monotone_fault(
@@ -166,7 +166,7 @@ fn meet(
 ) -> usize
     requires { ⌜ Room (now met) (now firsts) (now seconds) depth ⌝ }
     ensures depth { λ r. ⌜ r ≡ depth + (1 - cell (now (met .entry)) (m .0) (n .0)) ⌝ }
-    ensures met { λ _. ⌜ Marked (now (met .entry)) (now (met .exit)) (m .0) (n .0) ⌝ }
+    ensures met { λ _. ⌜ Met (now (met .entry)) (now (met .exit)) (m .0) (n .0) ⌝ }
     ensures firsts { λ _. ⌜ now (firsts .exit) ≡ set (now (firsts .entry)) depth (m .0) ⌝ }
     ensures seconds { λ _. ⌜ now (seconds .exit) ≡ set (now (seconds .entry)) depth (n .0) ⌝ }
 {
@@ -206,7 +206,7 @@ fn is_known(m: Node, n: Node) -> bool
 // Marks a pair as met that is neither known to imply nor met before.
 fn mark(met: &mut [u64; 1024], m: Node, n: Node)
     requires { ⌜ (length (now met) ≡ 1024) × (cell (now met) (m .0) (n .0) ≡ 0) ⌝ }
-    ensures { λ _. ⌜ Marked (now (met .entry)) (now (met .exit)) (m .0) (n .0) ⌝ }
+    ensures { λ _. ⌜ Met (now (met .entry)) (now (met .exit)) (m .0) (n .0) ⌝ }
 {
     let i = m.number() * 4 + n.number() / 64;
     met[i] |= 1 << (n.number() % 64);
