@@ -1,10 +1,9 @@
 -- `weigh_arcs` meets its contract. The loop's invariant: the arcs of the first k records have their weights. The measure is the number of records left.
 -- Assumes nothing.
-use Prim.Native.Nat.{ℕ, _+_, _-_, _≤_}
+use Prim.Native.Nat.{_-_, _≤_}
 use native.Mathlib.Omega.{arith}
 use mathlib.Core.Path.{_≡_, _∙_}
-use mathlib.Core.List.{List}
-use lib.ListN.{length, getD, length-set}
+use lib.ListN.{length, length-set}
 use Rattle.scoring.specs.Passes.{markAtNode}
 use Rattle.layers.specs.Weighed.{highKeptAt, lowKeptAt, Weighted}
 use Rattle.layers.proofs.Weighing.{weigh-none, weigh-next, weigh-all}
