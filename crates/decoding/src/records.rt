@@ -1,6 +1,7 @@
 // The records of a table in arrays by node number, one for each part of a record.
 use crate::heading::record_count;
 use crate::heading::variable_count;
+use diagram::MOST_RECORDS;
 use diagram::Node;
 use diagram::Position;
 use diagram::field_p;
@@ -12,6 +13,9 @@ ghost use Prim.Native.Nat.{ℕ, _+_, _≤_, _<_};
 ghost use lib.ListN.{length, getD, set};
 ghost use Rattle.diagram.specs.Table.{Record, tableOf, variableCount};
 ghost use Rattle.decoding.specs.Nodes.{column, Filled, Shaped};
+
+// How many records an array by node number has room for: as many as a table may have.
+const ROOM: usize = MOST_RECORDS as usize;
 
 // Copies the records of a file that the checks 12 and 17 let through, and marks the ends' position. The lengths are the
 // arrays' own.
@@ -52,7 +56,7 @@ fn clear(cells: &mut [u8; 256], n: usize)
     ensures { λ _. ⌜ ((end : ℕ) (part : ℕ → ℕ) → Filled end part (now (cells .entry)) n → ((k : ℕ) → n ≤ k → part k ≡ 0) → Filled end part (now (cells .exit)) 254) ⌝ }
 {
     let mut k = n;
-    while k < 254 {
+    while k < ROOM {
         cells[k + 2] = 0;
         k += 1;
     }

@@ -16,7 +16,7 @@ use Rattle.diagram.specs.Score.{implies}
 use Rattle.diagram.proofs.Every.{both, and-true-both}
 use Rattle.diagram.proofs.Implication.{implies-false-end, implies-true-end, implies-same, implies-ends}
 use Rattle.decoding.specs.declared.table.Decoded.{Decoded}
-use Rattle.implication.specs.Nodes.{recordsOf, endOf, Checkable, Pairs, next, smaller, cell, AtOnce, zeros, Marked, Room, PassedOn, Waits, Stack, Explored}
+use Rattle.implication.specs.Nodes.{recordsOf, endOf, Checkable, Pairs, next, smaller, cell, AtOnce, zeros, Met, Room, PassedOn, Waits, Stack, Explored}
 use Rattle.implication.proofs.Cells.{cell-le, origin-cell, only-known, zeros-marked}
 use Rattle.implication.proofs.Pairing.{Meets, next-le, next-less, next-later, next-split, position-few, held-chance, held-choice}
 
@@ -52,7 +52,7 @@ pub record Meeting (met firsts seconds : List ℕ) (depth m n : ℕ) (met′ fir
   pub m-small : m < 256
   pub n-small : n < 256
   pub end : depth′ ≡ depth + (1 - cell met m n)
-  pub cells : Marked met met′ m n
+  pub cells : Met met met′ m n
   pub ones : firsts′ ≡ set firsts depth m
   pub twos : seconds′ ≡ set seconds depth n
 

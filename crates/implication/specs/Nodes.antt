@@ -81,7 +81,7 @@ unfoldable pub zeros : List ℕ → ℕ
 zeros met = zerosBelow met 65536
 
 -- The cells of met′ are those of met, but for that of the pair m, n, which is 1
-pub record Marked (met met′ : List ℕ) (m n : ℕ) : Type 0 where
+pub record Met (met met′ : List ℕ) (m n : ℕ) : Type 0 where
   pub size : length met′ ≡ length met
   pub here : cell met′ m n ≡ 1
   pub kept : (p q : ℕ) → cell met p q ≡ 1 → cell met′ p q ≡ 1

@@ -16,7 +16,7 @@ ghost use Prim.Native.Nat.{ℕ, suc, _+_, _-_, _<_};
 ghost use lib.ListN.{length, set};
 ghost use lib.Dec.{eqb};
 ghost use Rattle.decoding.specs.Decoding.{tableIn};
-ghost use Rattle.implication.specs.Nodes.{Checkable, monotoneFaultIn, next, isKnown, cell, zeros, Marked, Room, Stack, Explored};
+ghost use Rattle.implication.specs.Nodes.{Checkable, monotoneFaultIn, next, isKnown, cell, zeros, Met, Room, Stack, Explored};
 ghost use Rattle.steps.specs.Steps.{faultOf};
 
 // Check 18, of a decoded table whose records are formed, as check 17 leaves them.
@@ -149,7 +149,7 @@ fn meet(
 ) -> usize
     requires { ⌜ Room (now met) (now firsts) (now seconds) depth ⌝ }
     ensures depth { λ r. ⌜ r ≡ depth + (1 - cell (now (met .entry)) (m .0) (n .0)) ⌝ }
-    ensures met { λ _. ⌜ Marked (now (met .entry)) (now (met .exit)) (m .0) (n .0) ⌝ }
+    ensures met { λ _. ⌜ Met (now (met .entry)) (now (met .exit)) (m .0) (n .0) ⌝ }
     ensures firsts { λ _. ⌜ now (firsts .exit) ≡ set (now (firsts .entry)) depth (m .0) ⌝ }
     ensures seconds { λ _. ⌜ now (seconds .exit) ≡ set (now (seconds .entry)) depth (n .0) ⌝ }
 {
@@ -189,7 +189,7 @@ fn is_known(m: Node, n: Node) -> bool
 // Marks a pair as met that is neither known to imply nor met before.
 fn mark(met: &mut [u64; 1024], m: Node, n: Node)
     requires { ⌜ (length (now met) ≡ 1024) × (cell (now met) (m .0) (n .0) ≡ 0) ⌝ }
-    ensures { λ _. ⌜ Marked (now (met .entry)) (now (met .exit)) (m .0) (n .0) ⌝ }
+    ensures { λ _. ⌜ Met (now (met .entry)) (now (met .exit)) (m .0) (n .0) ⌝ }
 {
     let i = m.number() * 4 + n.number() / 64;
     met[i] |= 1 << (n.number() % 64);

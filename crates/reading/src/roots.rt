@@ -3,6 +3,7 @@ use crate::variables::exceeds;
 use decoding::root_at;
 use decoding::root_count;
 use decoding::root_word_count;
+use diagram::MOST_REWARD;
 use diagram::field_p;
 use diagram::field_q;
 use diagram::field_r;
@@ -52,7 +53,7 @@ fn is_root_word(n: usize, w: u32) -> bool
     if reward < 1 {
         return false;
     }
-    if 64 < reward {
+    if MOST_REWARD < reward {
         return false;
     }
     let node = field_r(w);

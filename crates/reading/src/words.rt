@@ -1,4 +1,8 @@
 // The checks 11 to 13: the file's length and its heading.
+use diagram::MOST_BYTES;
+use diagram::MOST_RECORDS;
+use diagram::MOST_ROOTS;
+use diagram::MOST_VARIABLES;
 use diagram::field_p;
 use diagram::field_q;
 use diagram::field_r;
@@ -20,7 +24,7 @@ pub fn length_fault(file: &[u8]) -> Fault
     if n < 4 {
         return Fault::At(0);
     }
-    if 1324 < n {
+    if MOST_BYTES < n {
         return Fault::At(0);
     }
     if n % 4 == 0 {
@@ -51,17 +55,17 @@ fn is_heading(w: u32) -> bool
     if v < 1 {
         return false;
     }
-    if 60 < v {
+    if MOST_VARIABLES < v {
         return false;
     }
     let n = field_q(w);
     if n < 1 {
         return false;
     }
-    if 254 < n {
+    if MOST_RECORDS < n {
         return false;
     }
-    field_r(w) <= 16
+    field_r(w) <= MOST_ROOTS
 }
 
 // Check 13.

@@ -1,5 +1,6 @@
 // The checks of a request: those of the file, and those of what comes with it.
 use crate::answer::RequestAnswer;
+use diagram::MOST_BUDGET;
 use diagram::Refusal;
 use reading::ReadAnswer;
 use reading::read_records;
@@ -43,7 +44,7 @@ pub fn accept(
     if 100 < percent {
         return refuse(23, 0);
     }
-    if 10020 < budget {
+    if MOST_BUDGET < budget {
         return refuse(24, 0);
     }
     if size != t.choices {

@@ -1,4 +1,4 @@
--- `leave_layer` meets its contract. The loop's invariant: the cells are those that the nodes so far leave. The measure is the number of nodes left.
+-- `leave_line` meets its contract. The loop's invariant: the cells are those that the nodes so far leave. The measure is the number of nodes left.
 -- Assumes nothing.
 use Prim.Native.Nat.{_-_, _≤_, _<_}
 use native.Mathlib.Nat.{le-refl}
@@ -7,15 +7,15 @@ use mathlib.Core.Path.{_≡_, refl}
 use lib.ListN.{length}
 use Rattle.layers.specs.Layers.{leaveNodes}
 use Rattle.layers.proofs.Walking.{leave-none, leave-next, leave-all, put-length}
-use Rattle.layers.proofs.walk.leave_layer.Statement.{statement}
-use Rattle.layers.proofs.walk.leave_layer.Tie as tie
+use Rattle.layers.proofs.walk.leave_line.Statement.{statement}
+use Rattle.layers.proofs.walk.leave_line.Tie as tie
 
 abbrev Inv-loop : tie.InvT-loop
-Inv-loop lines cells₀ unsettled to i₀ cells i =
-    (i₀ ≤ i) × (i ≤ to) × (length cells ≡ 512) × (cells ≡ leaveNodes i₀ (i - i₀) cells₀)
+Inv-loop lines cells₀ unsettled next i₀ cells i =
+    (i₀ ≤ i) × (i ≤ next) × (length cells ≡ 512) × (cells ≡ leaveNodes i₀ (i - i₀) cells₀)
 
 abbrev μ-loop : tie.MeasureT-loop
-μ-loop lines cells₀ unsettled to i₀ cells i = to - i
+μ-loop lines cells₀ unsettled next i₀ cells i = next - i
 
 sub-index : tie.Need-sub-index Inv-loop μ-loop
 sub-index c = omega arith
@@ -90,8 +90,8 @@ returns c =
     let end = c .loop-test .left in
     rw (← c .before .before .index2 .ensures, ← c .before .before .before .before .index .ensures) (leave-all _ _ (inv .1) (omega arith) (inv .3))
 
-pub leave-layer-spec : {M : Type 1} → statement M
-leave-layer-spec =
+pub leave-line-spec : {M : Type 1} → statement M
+leave-line-spec =
     tie.close
     (tie.spec
     Inv-loop
