@@ -84,7 +84,7 @@ Rooted t =
     (i : ℕ) → i < length (t .roots) → (2 ≤ rootAt (t .roots) i .node) × (rootAt (t .roots) i .node < length (t .records) + 2)
 
 -- What the checks of a file have shown of its table
-pub record Accepted (t : Table) : Type 0 where
+pub record Valid (t : Table) : Type 0 where
   pub variables : (1 ≤ length (t .variables)) × (length (t .variables) ≤ 60)
   pub records : (1 ≤ length (t .records)) × (length (t .records) ≤ 254)
   pub choices : choiceCount (t .variables) ≤ 20
@@ -99,7 +99,7 @@ pub record Accepted (t : Table) : Type 0 where
 -- A decoded table that is accepted
 pub record Sound (d : Decoded) : Type 0 where
   pub held : Held d
-  pub accepted : Accepted (tableIn d)
+  pub valid : Valid (tableIn d)
 
 -- The table of a file that is turned away: zeros everywhere
 unfoldable pub emptyTable : Decoded

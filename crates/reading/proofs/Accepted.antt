@@ -24,7 +24,7 @@ use Rattle.diagram.proofs.Implication.{implies-same}
 use Rattle.diagram.proofs.FirstVariable.{Shares, no-shares, choice-shares, chance-shares}
 use Rattle.diagram.proofs.Rising.{Monotone}
 use Rattle.decoding.specs.Nodes.{Shaped}
-use Rattle.decoding.specs.Decoding.{Accepted}
+use Rattle.decoding.specs.Decoding.{Valid}
 use Rattle.decoding.proofs.Rooting.{roots-few, root-is}
 use Rattle.implication.specs.Nodes.{monotoneFaultIn}
 use Rattle.decoding.proofs.Choosing.{variables-length}
@@ -122,8 +122,8 @@ passed-scale {s} h = ltb-false (2 ^ 56) _ (no-fault _ (h .reward))
 -- ---------------------------------------------------------------------------
 -- The table of a file that no check finds at fault
 
-pub passed-accepted : {s : List ℕ} → Passed s → Accepted (tableOf s)
-passed-accepted {s} h =
+pub passed-valid : {s : List ℕ} → Passed s → Valid (tableOf s)
+passed-valid {s} h =
     record {
       variables = passed-variables h;
       records = passed-records h;

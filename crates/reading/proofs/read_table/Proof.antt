@@ -5,7 +5,7 @@ use Rattle.diagram.specs.Services.{Reading, reading, answered}
 use Rattle.diagram.proofs.Checked.{read-passed}
 use Rattle.implication.proofs.Pairing.{fault-of-table}
 use Rattle.reading.specs.Answer.{shapeOutcome}
-use Rattle.reading.proofs.Accepted.{choices-within, passed-accepted}
+use Rattle.reading.proofs.Accepted.{choices-within, passed-valid}
 use Rattle.steps.proofs.Stepping.{fault-none, fault-some}
 use Rattle.reading.proofs.Outcomes.{numbers, refused-as, table-as, shape-refuses, shape-shown, shape-reading, stops-18, past-18, reads-refused, reads-accepted, shown-checkable}
 use borrow.Author.Needs.{needs}
@@ -64,7 +64,7 @@ returns-3 c =
     let decoded = c .before .before .before .decode .ensures in
     let found = rw (decoded .0, fault-of-table s) at (c .before .before .monotone-fault .ensures) in
     let read = past-18 s _ (shape (c .before .before .before .before)) (fault-none _ found (c .enum-told .given .1)) in
-    reads-accepted s _ (decoded .0) (record { held = decoded .1; accepted = rw (decoded .0) (passed-accepted (read-passed s _ (sym read))) }) _ read
+    reads-accepted s _ (decoded .0) (record { held = decoded .1; valid = rw (decoded .0) (passed-valid (read-passed s _ (sym read))) }) _ read
 
 pub read-table-spec : {M : Type 1} → statement M
 read-table-spec =
