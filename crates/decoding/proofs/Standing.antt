@@ -51,6 +51,14 @@ module _ (d : Decoded) where
   unfolding tableIn recordsIn
   records-in = sequence-length _ 0 (d .records)
 
+  pub roots-in : length (tableIn d .roots) ≡ d .roots
+  unfolding tableIn rootsIn
+  roots-in = sequence-length _ 0 (d .roots)
+
+  pub root-in : (i : ℕ) → i < d .roots → rootAt (tableIn d .roots) i ≡ record { node = getD (d .nodes) i 0; reward = getD (d .rewards) i 0 }
+  unfolding tableIn rootsIn rootAt
+  root-in i h = sequence-at _ 0 (d .roots) i _ h ∙ rw zero-add
+
   -- the variable at position x
   pub variable-in : (x : ℕ) → x < d .variables → getD (tableIn d .variables) x (chance 0 1) ≡ variableOf (getD (d .words) x 0)
   unfolding tableIn variablesIn

@@ -93,6 +93,7 @@ pub record Valid (t : Table) : Type 0 where
   pub formed : Formed (length (t .variables)) (t .records)
   pub roots : length (t .roots) ≤ 16
   pub rooted : Rooted t
+  pub rewards : (i : ℕ) → i < length (t .roots) → rootAt (t .roots) i .reward ≤ 64
   pub scaled : scale t ≤ 2 ^ 56
   pub monotone : Monotone t
 

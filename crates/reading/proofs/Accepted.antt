@@ -133,6 +133,7 @@ passed-valid {s} h =
       formed = passed-formed h;
       roots = roots-few s (h .heading) (h .roots);
       rooted = λ i l. rw records-length (root-is s (h .heading) (h .roots) i l .within);
+      rewards = λ i l. root-is s (h .heading) (h .roots) i l .rewards .1;
       scaled = passed-scale h;
       monotone = passed-monotone h;
     }

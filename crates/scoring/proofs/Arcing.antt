@@ -1,5 +1,5 @@
 -- Arrays that a loop writes cell by cell, the products of b from each position on, and the weight of an arc as a quotient of two of them.
--- Assumes of the file that no check finds it at fault (`Passed`), and of the variables what check 14 finds (`Shares`), where a law says so.
+-- Assumes of the decoded table that it is accepted (`Sound`), and of the variables what check 14 finds (`Shares`), where a law says so.
 use Prim.Native.Nat.{ℕ, zero, suc, _+_, _*_, _/_, _≤_, _<_, _^_}
 use native.Mathlib.Nat.{le-refl, zero-add, mul-le-mul-left, mul-le-mul-right, mul-div-cancel, eq-or-lt-of-le}
 use native.Mathlib.Numerals.{add-one}
@@ -10,21 +10,19 @@ use mathlib.Core.List.{List, [], _∷_}
 use lib.ListN.{length, getD, set, drop, replicate, length-set, getD-replicate}
 use lib.Seq.{drop-cons, getD-set-same, getD-set-other, ext-getD}
 use borrow.Author.Tests.{eq-eqb, ne-eqb}
-use Rattle.diagram.specs.Words.{wordAt, kind, fieldQ, fieldR}
-use Rattle.diagram.specs.Table.{Variable, choice, chance, Record, Table, sequence, variableOf, recordAt, scaleOf, scale, tableOf}
+use Rattle.diagram.specs.Words.{kind, fieldQ, fieldR}
+use Rattle.diagram.specs.Table.{Variable, choice, chance, Record, Table, sequence, variableOf, recordAt, scaleOf, scale}
 use Rattle.diagram.specs.Checks.{positionOf}
 use Rattle.diagram.proofs.Places.{sequence-length, sequence-at}
-use Rattle.diagram.proofs.Checked.{Passed}
 use Rattle.diagram.proofs.Locality.{position-le, position-less}
 use Rattle.diagram.proofs.FirstVariable.{Shares, no-shares, choice-shares, chance-shares, scale-positive}
+use Rattle.decoding.specs.declared.table.Decoded.{Decoded}
 use Rattle.decoding.specs.Nodes.{column}
-use Rattle.decoding.proofs.Choosing.{variables-length}
-use Rattle.decoding.proofs.Columns.{front-position}
-use Rattle.decoding.proofs.Columns.{column-at}
-use Rattle.decoding.proofs.Choosing.{variable-at}
-use Rattle.reading.proofs.Accepted.{passed-variables, passed-formed, passed-shares, passed-product}
+use Rattle.decoding.specs.Decoding.{tableIn, Held, Sound}
+use Rattle.decoding.proofs.Columns.{front-position, column-at}
+use Rattle.decoding.proofs.Standing.{variables-in, variable-in}
 use Rattle.scoring.specs.Value.{place, gap, variableAt, highShare, lowShare, highArc, lowArc}
-use Rattle.scoring.specs.Passes.{over, byNode, products, sharesBy, highShares, lowShares, arcWeight, Weighable, Decoded}
+use Rattle.scoring.specs.Passes.{over, byNode, products, sharesBy, highShares, lowShares, arcWeight, Weighable}
 use Rattle.scoring.proofs.Over.{over-ends, byNode-length, over-byNode}
 use Rattle.scoring.proofs.Values.{gap-scale, shares-drop, shares-sum}
 
@@ -134,19 +132,18 @@ suffix-le (chance-shares {b} {vs} ab b1 h) (suc x) = omega (arith, suffix-le h x
 pub suffix-gap : (t : Table) (x y : ℕ) → Shares (t .variables) → x ≤ y → y ≤ length (t .variables) → scaleOf (drop x (t .variables)) / scaleOf (drop y (t .variables)) ≡ gap t x y
 suffix-gap t x y h l m = rw (← gap-scale t x y l m) (mul-div-cancel (gap t x y) (scale-positive (shares-drop h y)))
 
--- the product from position x on, in a file's table
-abbrev pub suffix : (file : List ℕ) → (x : ℕ) → ℕ
-suffix s x = scaleOf (drop x (tableOf s .variables))
+-- the product from position x on, in a decoded table
+abbrev pub suffix : Decoded → (x : ℕ) → ℕ
+suffix d x = scaleOf (drop x (tableIn d .variables))
 
 -- the product from a position on is the product after it, times its own b
-pub suffix-down : (s : List ℕ) (p : ℕ) {x b : ℕ} → p < length (tableOf s .variables) → x ≡ suffix s (p + 1) → b ≡ scaleOf (variableOf (wordAt s (1 + p)) ∷ []) → x * b ≡ suffix s p
-suffix-down s p h e f =
-    let v = variables-length s in
-    rw (suffix-step (tableOf s .variables) p h, variable-at s p (omega arith), e, f)
+pub suffix-down : (d : Decoded) (p : ℕ) {x b : ℕ} → p < d .variables → x ≡ suffix d (p + 1) → b ≡ scaleOf (variableOf (getD (d .words) p 0) ∷ []) → x * b ≡ suffix d p
+suffix-down d p h e f =
+    rw (suffix-step (tableIn d .variables) p (omega (arith, variables-in d)), variable-in d p h, e, f)
 
-pub suffix-fits : {s : List ℕ} → Passed s → (x : ℕ) → suffix s x ≤ 2 ^ 56
+pub suffix-fits : {d : Decoded} → Sound d → (x : ℕ) → suffix d x ≤ 2 ^ 56
 unfolding scale
-suffix-fits h x = omega (arith, suffix-le (passed-shares h) x, passed-product h)
+suffix-fits h x = omega (arith, suffix-le (h .valid .shares) x, h .valid .product)
 
 -- ---------------------------------------------------------------------------
 -- The weight of an arc
@@ -155,6 +152,22 @@ suffix-fits h x = omega (arith, suffix-le (passed-shares h) x, passed-product h)
 pub column-position : (v : ℕ) (rs : List Record) (n : ℕ) → n < 256 → getD (column v (λ (r : Record). r .position) rs) n 0 ≡ positionOf v rs n
 unfolding column
 column-position v rs n h = front-position v rs 254 n h
+
+-- the cells of a decoded table: a node's position, and the children of record k
+module _ {d : Decoded} (h : Held d) where
+  pub position-in : (n : ℕ) → n < 256 → getD (d .positions) n 0 ≡ place (tableIn d) n
+  unfolding place
+  position-in n l =
+      ap (λ (cells : List ℕ). getD cells n 0) (h .positions) ∙ column-position (d .variables) (tableIn d .records) n l ∙ rw (variables-in d) refl
+
+  pub high-in : (k : ℕ) → k < 254 → getD (d .high) (k + 2) 0 ≡ recordAt (tableIn d .records) k .hi
+  high-in k l = ap (λ (cells : List ℕ). getD cells (k + 2) 0) (h .high) ∙ column-at _ _ _ k l
+
+  pub low-in : (k : ℕ) → k < 254 → getD (d .low) (k + 2) 0 ≡ recordAt (tableIn d .records) k .lo
+  low-in k l = ap (λ (cells : List ℕ). getD cells (k + 2) 0) (h .low) ∙ column-at _ _ _ k l
+
+  pub record-position-in : (k : ℕ) → k < 254 → getD (d .positions) (k + 2) 0 ≡ recordAt (tableIn d .records) k .position
+  record-position-in k l = ap (λ (cells : List ℕ). getD cells (k + 2) 0) (h .positions) ∙ column-at _ _ _ k l
 
 pub products-at : (t : Table) (x : ℕ) → x < 64 → getD (products t) x 0 ≡ scaleOf (drop x (t .variables))
 unfolding products
@@ -184,42 +197,42 @@ pub record Weighs (qs ss ps cs : List ℕ) (n arc : ℕ) : Type 0 where
   pub weighable : Weighable qs ss ps cs n
   pub weight : arcWeight qs ss ps cs n ≡ arc
 
-module _ {s ps hs ls qs : List ℕ} (passed : Passed s) (d : Decoded s ps hs ls) (held : qs ≡ products (tableOf s)) (k : ℕ) (few : k < 254) where
+module _ {d : Decoded} {qs : List ℕ} (sound : Sound d) (held : qs ≡ products (tableIn d)) (k : ℕ) (few : k < 254) where
   -- an arc to child n
-  arc-weighs : {ss cs : List ℕ} (share : Variable → ℕ) (n : ℕ) → let x = recordAt (tableOf s .records) k .position in let own = share (variableAt (tableOf s) k) in ss ≡ sharesBy share (tableOf s) → getD cs (k + 2) 0 ≡ n → n < k + 2 → x < place (tableOf s) n → own * suffix s (x + 1) ≤ suffix s x → Weighs qs ss ps cs (k + 2) (own * gap (tableOf s) (x + 1) (place (tableOf s) n))
+  arc-weighs : {ss cs : List ℕ} (share : Variable → ℕ) (n : ℕ) → let x = recordAt (tableIn d .records) k .position in let own = share (variableAt (tableIn d) k) in ss ≡ sharesBy share (tableIn d) → getD cs (k + 2) 0 ≡ n → n < k + 2 → x < place (tableIn d) n → own * suffix d (x + 1) ≤ suffix d x → Weighs qs ss (d .positions) cs (k + 2) (own * gap (tableIn d) (x + 1) (place (tableIn d) n))
   unfolding place arcWeight variableAt
   arc-weighs {ss} {cs} share n read child small later fit =
-      let t = tableOf s in
+      let t = tableIn d in
       let x = recordAt (t .records) k .position in
       let y = place t n in
       let own = share (variableAt t k) in
-      let v = passed-variables passed in
-      let within : y ≤ length (t .variables) = position-le (passed-formed passed) n in
-      let from : getD ps (k + 2) 0 ≡ x = rw (d .positions) (column-at _ _ _ k few) in
-      let to : getD ps (getD cs (k + 2) 0) 0 ≡ y = rw (child, d .positions, ← variables-length s) (column-position (length (t .variables)) (t .records) n (omega arith)) in
+      let v = sound .valid .variables in
+      let within : y ≤ length (t .variables) = position-le (sound .valid .formed) n in
+      let from : getD (d .positions) (k + 2) 0 ≡ x = record-position-in (sound .held) k few in
+      let to : getD (d .positions) (getD cs (k + 2) 0) 0 ≡ y = rw child (position-in (sound .held) n (omega arith)) in
       let shares : getD ss x 0 ≡ own = rw read (shares-at share t x (omega arith)) in
-      let quotient = suffix-gap t (x + 1) y (passed-shares passed) (omega arith) within in
-      let weight : arcWeight qs ss ps cs (k + 2) ≡ own * gap t (x + 1) y = rw (from, to, shares, held, products-at t (x + 1) (omega arith), products-at t y (omega arith), quotient) in
+      let quotient = suffix-gap t (x + 1) y (sound .valid .shares) (omega arith) within in
+      let weight : arcWeight qs ss (d .positions) cs (k + 2) ≡ own * gap t (x + 1) y = rw (from, to, shares, held, products-at t (x + 1) (omega arith), products-at t y (omega arith), quotient) in
       record {
         weighable = record {
           from = rw from (omega arith);
           to = rw to (omega arith);
-          positive = rw (to, held, products-at t y (omega arith)) (scale-positive (shares-drop (passed-shares passed) y));
-          fits = rw weight (omega (arith, gap-fits t x y own (passed-shares passed) later within fit, suffix-fits passed x));
+          positive = rw (to, held, products-at t y (omega arith)) (scale-positive (shares-drop (sound .valid .shares) y));
+          fits = rw weight (omega (arith, gap-fits t x y own (sound .valid .shares) later within fit, suffix-fits sound x));
         };
         weight = weight;
       }
 
-  pub high-weighs : {ss : List ℕ} → ss ≡ highShares (tableOf s) → Weighs qs ss ps hs (k + 2) (highArc (tableOf s) k)
+  pub high-weighs : {ss : List ℕ} → ss ≡ highShares (tableIn d) → Weighs qs ss (d .positions) (d .high) (k + 2) (highArc (tableIn d) k)
   unfolding highArc variableAt place
   high-weighs read =
-      let formed = passed-formed passed in
-      let shares = suffix-shares (tableOf s) _ (passed-shares passed) (position-less formed k) 1 in
-      arc-weighs (λ v. highShare v 1) _ read (rw (d .high) (column-at _ _ _ k few)) (formed .hiLess k) (formed .hiLater k) (omega arith)
+      let formed = sound .valid .formed in
+      let shares = suffix-shares (tableIn d) _ (sound .valid .shares) (position-less formed k) 1 in
+      arc-weighs (λ v. highShare v 1) _ read (high-in (sound .held) k few) (formed .hiLess k) (formed .hiLater k) (omega arith)
 
-  pub low-weighs : {ss : List ℕ} → ss ≡ lowShares (tableOf s) → Weighs qs ss ps ls (k + 2) (lowArc (tableOf s) k)
+  pub low-weighs : {ss : List ℕ} → ss ≡ lowShares (tableIn d) → Weighs qs ss (d .positions) (d .low) (k + 2) (lowArc (tableIn d) k)
   unfolding lowArc variableAt place
   low-weighs read =
-      let formed = passed-formed passed in
-      let shares = suffix-shares (tableOf s) _ (passed-shares passed) (position-less formed k) 2 in
-      arc-weighs (λ v. lowShare v 2) _ read (rw (d .low) (column-at _ _ _ k few)) (formed .loLess k) (formed .loLater k) (omega arith)
+      let formed = sound .valid .formed in
+      let shares = suffix-shares (tableIn d) _ (sound .valid .shares) (position-less formed k) 2 in
+      arc-weighs (λ v. lowShare v 2) _ read (low-in (sound .held) k few) (formed .loLess k) (formed .loLater k) (omega arith)

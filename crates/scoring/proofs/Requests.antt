@@ -1,4 +1,4 @@
--- The arrays after reading, and how the score's own checks decide a request whose file reading answers.
+-- How the score's own checks decide a request whose file reading answers.
 -- Assumes nothing.
 use Prim.Native.Nat.{ℕ}
 use mathlib.Core.Path.{_≡_, refl, ap, sym, _∙_}
@@ -12,24 +12,7 @@ use Rattle.diagram.specs.Plans.{upperBound}
 use Rattle.diagram.specs.Checks.{placeZero, planLengthFault, fullPlanFault, scoreChecks}
 use Rattle.diagram.specs.Services.{refused, answered, Reading, reading, readOutcome, scoreOutcome}
 use Rattle.diagram.proofs.Checked.{checked-passes, checked-stops, checked-end, read-refuses, read-answers}
-use Rattle.decoding.specs.declared.table.Decoded as read
-use Rattle.decoding.specs.Decoding.{tableIn, Held}
-use Rattle.reading.proofs.Outcomes.{variables-decoded}
-use Rattle.scoring.specs.Passes.{Decoded}
 use Rattle.scoring.proofs.FullPlans.{full-closed, openTaken-same}
-
--- ---------------------------------------------------------------------------
--- The records
-
--- the arrays of an accepted file's table hold its records
-pub decoded-read : {s : List ℕ} {d : read.Decoded} → tableIn d ≡ tableOf s → Held d → Decoded s (d .positions) (d .high) (d .low)
-decoded-read {s} {d} stands held =
-    let v : d .variables ≡ variableCount s = variables-decoded s d stands in
-    record {
-      positions = rw (stands, v) at (held .positions);
-      high = rw stands at (held .high);
-      low = rw stands at (held .low);
-    }
 
 -- ---------------------------------------------------------------------------
 -- Check 21

@@ -52,12 +52,6 @@ pub record Weighable (qs ss ps cs : List ℕ) (n : ℕ) : Type 0 where
   pub positive : 0 < getD qs (getD ps (getD cs n 0) 0) 0
   pub fits : arcWeight qs ss ps cs n ≤ 2 ^ 56
 
--- The arrays that `reading::read_records` fills hold the file's records
-pub record Decoded (s ps hs ls : List ℕ) : Type 0 where
-  pub positions : ps ≡ column (variableCount s) (λ (r : Record). r .position) (tableOf s .records)
-  pub high : hs ≡ column 0 (λ (r : Record). r .hi) (tableOf s .records)
-  pub low : ls ≡ column 0 (λ (r : Record). r .lo) (tableOf s .records)
-
 -- The first n roots of a table in arrays: at i + 2 the node of root i, and what comes to it, its reward times b of each variable before the node
 pub record RootsHeldTo (t : Table) (n : ℕ) (nodes weights : List ℕ) : Type 0 where
   pub within : (i : ℕ) → i < n → (2 ≤ getD nodes (i + 2) 0) × (getD nodes (i + 2) 0 < length (t .records) + 2)

@@ -1,50 +1,43 @@
 // The weights of a table's arcs: computed once for a table, whatever the plan.
+use decoding::Decoded;
+use decoding::child_of;
+use decoding::position_of;
 use diagram::Node;
 use diagram::Position;
 use diagram::field_q;
 use diagram::field_r;
 use diagram::kind;
-use diagram::word_at;
-use decoding::child_of;
-use decoding::is_choice;
-use decoding::position_of;
-use decoding::variable_count;
 ghost use mathlib.Core.Path.{_≡_};
 ghost use mathlib.Core.List.{[], _∷_};
 ghost use Prim.Native.Nat.{_+_, _*_, _/_, _≤_, _<_, _^_};
 ghost use lib.ListN.{getD};
-ghost use Rattle.diagram.specs.Table.{tableOf, variableOf, scaleOf};
-ghost use Rattle.diagram.specs.Words.{wordAt};
-ghost use Rattle.diagram.proofs.Checked.{Passed};
+ghost use Rattle.diagram.specs.Table.{variableOf, scaleOf};
+ghost use Rattle.decoding.specs.Decoding.{tableIn, Sound};
 ghost use Rattle.scoring.specs.Value.{highShare, lowShare};
 ghost use Rattle.scoring.specs.Passes as passes;
 ghost use Rattle.scoring.specs.Passes.{highShares, lowShares, arcWeight, Weighable};
 
-// The product of b from each position on. The file has passed every check.
-pub fn products(file: &[u8]) -> [u64; 64]
-    requires { ⌜ Passed (now file) ⌝ }
-    ensures { λ r. ⌜ r ≡ passes.products (tableOf (now (file .entry))) ⌝ }
+// The product of b from each position on, of a table that is accepted.
+pub fn products(table: Decoded) -> [u64; 64]
+    requires { ⌜ Sound table ⌝ }
+    ensures { λ r. ⌜ r ≡ passes.products (tableIn table) ⌝ }
 {
     let mut products = [1u64; 64];
-    let mut p = variable_count(file);
+    let mut p = table.variables;
     while 0 < p {
         p -= 1;
-        let at = Position::new(p);
+        let w = table.words[p as usize];
         let after = products[p as usize + 1];
-        products[p as usize] = after * share_sum(file, at);
+        products[p as usize] = after * share_sum(w);
     }
     products
 }
 
-// b of the variable at a position, and 1 where it is a choice.
-fn share_sum(file: &[u8], at: Position) -> u64
-    ensures { λ r. ⌜ r ≡ scaleOf (variableOf (wordAt (now (file .entry)) (1 + at .0)) ∷ []) ⌝ }
+// b of a variable, and 1 where it is a choice.
+fn share_sum(w: u32) -> u64
+    ensures { λ r. ⌜ r ≡ scaleOf (variableOf w ∷ []) ⌝ }
 {
-    if is_choice(file, at) {
-        1
-    } else {
-        field_r(word_at(file, at.word())) as u64
-    }
+    if kind(w) == 2 { 1 } else { field_r(w) as u64 }
 }
 
 // The shares of the hi arcs and of the lo arcs, by position.
@@ -54,17 +47,17 @@ pub struct Shares {
 }
 
 // The shares of the arcs at each position, read once for all records; 0 and 1 past the last variable.
-pub fn shares_by_position(file: &[u8]) -> Shares
-    ensures high { λ r. ⌜ r .high ≡ highShares (tableOf (now (file .entry))) ⌝ }
-    ensures low { λ r. ⌜ r .low ≡ lowShares (tableOf (now (file .entry))) ⌝ }
+pub fn shares_by_position(table: Decoded) -> Shares
+    requires { ⌜ Sound table ⌝ }
+    ensures high { λ r. ⌜ r .high ≡ highShares (tableIn table) ⌝ }
+    ensures low { λ r. ⌜ r .low ≡ lowShares (tableIn table) ⌝ }
 {
     let mut high = [0u64; 64];
     let mut low = [1u64; 64];
-    let mut p = variable_count(file);
+    let mut p = table.variables;
     while 0 < p {
         p -= 1;
-        let at = Position::new(p);
-        let w = word_at(file, at.word());
+        let w = table.words[p as usize];
         high[p as usize] = high_share(w);
         low[p as usize] = low_share(w);
     }
@@ -73,11 +66,11 @@ pub fn shares_by_position(file: &[u8]) -> Shares
 
 // The weight of a record's hi arc, or of its lo arc, from the products, the shares of these arcs, and the children that they
 // lead to. `lay_out` has the arrays of an accepted table.
-pub fn arc_weight(
+pub fn arc_weight<'a>(
     products: &[u64; 64],
     shares: &[u64; 64],
-    positions: &[u8; 256],
-    children: &[u8; 256],
+    positions: &'a [u8; 256],
+    children: &'a [u8; 256],
     node: Node,
 ) -> u64
     requires { ⌜ Weighable (now products) (now shares) (now positions) (now children) (node .0) ⌝ }

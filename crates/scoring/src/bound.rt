@@ -6,41 +6,32 @@ use crate::pass::pass_up;
 use crate::roots::Roots;
 use crate::roots::root_sum;
 use diagram::Node;
-use decoding::record_count;
+use decoding::Decoded;
 ghost use mathlib.Core.Path.{_≡_};
 ghost use mathlib.Core.List.{List};
 ghost use Prim.Native.Nat.{ℕ, _+_, _≤_};
 ghost use lib.ListN.{length, getD};
-ghost use Rattle.diagram.specs.Table.{Table, sequence, tableOf, choiceCount};
+ghost use Rattle.diagram.specs.Table.{Table, sequence, choiceCount};
 ghost use Rattle.diagram.specs.Plans.{openTaken, upperBound};
-ghost use Rattle.diagram.proofs.Checked.{Passed};
+ghost use Rattle.decoding.specs.Decoding.{tableIn, Sound};
 ghost use Rattle.scoring.specs.Value.{value};
-ghost use Rattle.scoring.specs.Passes.{over, Decoded, RootsHeld, Marked};
+ghost use Rattle.scoring.specs.Passes.{over, RootsHeld, Marked};
 
-// The score with all open lines taken, of a file that has passed every check and a plan that checks 21 and 22 let through. The
-// arrays hold the file's records.
-pub fn upper_bound<'a>(
-    file: &[u8],
-    plan: &[u8],
-    positions: &'a [u8; 256],
-    high: &'a [u8; 256],
-    low: &'a [u8; 256],
-) -> u64
-    requires passed { ⌜ Passed (now file) ⌝ }
-    requires plan { ⌜ (length (now plan) ≡ choiceCount (tableOf (now file) .variables)) × ((i : ℕ) → getD (now plan) i 0 ≤ 2) ⌝ }
-    requires records { ⌜ Decoded (now file) (now positions) (now high) (now low) ⌝ }
-    ensures { λ r. ⌜ r ≡ upperBound (tableOf (now (file .entry))) (now (plan .entry)) ⌝ }
+// The score with all open lines taken, of an accepted table and a plan that checks 21 and 22 let through.
+pub fn upper_bound(table: Decoded, plan: &[u8]) -> u64
+    requires sound { ⌜ Sound table ⌝ }
+    requires plan { ⌜ (length (now plan) ≡ choiceCount (tableIn table .variables)) × ((i : ℕ) → getD (now plan) i 0 ≤ 2) ⌝ }
+    ensures { λ r. ⌜ r ≡ upperBound (tableIn table) (now (plan .entry)) ⌝ }
 {
-    let n = record_count(file);
     let mut high_arcs = [0u64; 256];
     let mut low_arcs = [0u64; 256];
-    let roots = lay_out(file, n, positions, high, low, &mut high_arcs, &mut low_arcs);
-    let marks = marks_by_position(file, plan);
+    let roots = lay_out(table, &mut high_arcs, &mut low_arcs);
+    let marks = marks_by_position(table, plan);
     bound_of(
-        n,
-        positions,
-        high,
-        low,
+        table.records,
+        &table.positions,
+        &table.high,
+        &table.low,
         &high_arcs,
         &low_arcs,
         &marks,
@@ -50,11 +41,11 @@ pub fn upper_bound<'a>(
 
 // The score with all open lines taken, from the arrays of a table, its roots and a plan, as `read_records`, `lay_out` and
 // `marks_by_position` leave them.
-pub fn bound_of(
+pub fn bound_of<'a>(
     n: usize,
-    positions: &[u8; 256],
-    high: &[u8; 256],
-    low: &[u8; 256],
+    positions: &'a [u8; 256],
+    high: &'a [u8; 256],
+    low: &'a [u8; 256],
     high_arcs: &[u64; 256],
     low_arcs: &[u64; 256],
     marks: &[u8; 64],

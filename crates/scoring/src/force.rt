@@ -2,27 +2,28 @@
 use diagram::Node;
 use diagram::Plan;
 use diagram::Position;
-use decoding::is_choice;
+use decoding::Decoded;
+use decoding::is_choice_at;
 use decoding::position_of;
-use decoding::variable_count;
 ghost use mathlib.Core.Path.{_≡_};
 ghost use Prim.Native.Nat.{ℕ, _≤_, _<_, _+_};
 ghost use lib.ListN.{length, getD};
-ghost use Rattle.diagram.specs.Table.{tableOf, choiceCount};
+ghost use Rattle.diagram.specs.Table.{choiceCount};
+ghost use Rattle.decoding.specs.Decoding.{tableIn};
 ghost use Rattle.scoring.specs.Passes as passes;
 ghost use Rattle.scoring.specs.Passes.{over, byNode, markAtNode, highInForce, lowInForce};
 
 // The mark in force at each position, `CHANCE` at a chance. The plan has one byte a choice, as check 21 asks.
-pub fn marks_by_position(file: &[u8], plan: &[u8]) -> [u8; 64]
-    requires { ⌜ length (now plan) ≡ choiceCount (tableOf (now file) .variables) ⌝ }
-    ensures { λ r. ⌜ r ≡ passes.marksByPosition (tableOf (now (file .entry))) (now (plan .entry)) ⌝ }
+pub fn marks_by_position(table: Decoded, plan: &[u8]) -> [u8; 64]
+    requires { ⌜ (table .variables < 64) × (length (now plan) ≡ choiceCount (tableIn table .variables)) ⌝ }
+    ensures { λ r. ⌜ r ≡ passes.marksByPosition (tableIn table) (now (plan .entry)) ⌝ }
 {
-    let v = variable_count(file);
+    let v = table.variables;
     let mut marks = [Plan::CHANCE; 64];
     let mut choice = 0;
     let mut p = 0;
     while p < v {
-        if is_choice(file, Position::new(p)) {
+        if is_choice_at(&table.words, Position::new(p)) {
             marks[p as usize] = plan[choice];
             choice += 1;
         }

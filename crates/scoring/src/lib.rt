@@ -48,7 +48,7 @@ pub fn score(file: &[u8], plan: &[u8]) -> ScoreAnswer
         return refuse(22, place);
     }
     let t = found.table;
-    ScoreAnswer::Score(upper_bound(file, plan, &t.positions, &t.high, &t.low))
+    ScoreAnswer::Score(upper_bound(t, plan))
 }
 
 fn refuse(number: u8, place: usize) -> ScoreAnswer

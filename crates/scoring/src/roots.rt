@@ -2,15 +2,12 @@
 use crate::bound::value_of;
 use diagram::Node;
 use diagram::Position;
+use decoding::Decoded;
 use decoding::position_of;
-use decoding::root_at;
-use decoding::root_count;
 ghost use mathlib.Core.Path.{_≡_};
 ghost use Prim.Native.Nat.{_/_, _≤_, _<_, _^_};
 ghost use lib.ListN.{getD};
-ghost use Rattle.diagram.specs.Table.{Record, tableOf, variableCount};
-ghost use Rattle.diagram.proofs.Checked.{Passed};
-ghost use Rattle.decoding.specs.Nodes.{column};
+ghost use Rattle.decoding.specs.Decoding.{tableIn, Sound};
 ghost use Rattle.scoring.specs.Passes as passes;
 ghost use Rattle.scoring.specs.Passes.{RootsHeld, rootSum};
 
@@ -22,23 +19,21 @@ pub struct Roots {
     pub weights: [u64; 32],
 }
 
-// The roots of a file that has passed every check. The arrays hold its positions and the products of b.
-pub fn roots_of(file: &[u8], products: &[u64; 64], positions: &[u8; 256]) -> Roots
-    requires passed { ⌜ Passed (now file) ⌝ }
-    requires positions { ⌜ now positions ≡ column (variableCount (now file)) (λ (r : Record). r .position) (tableOf (now file) .records) ⌝ }
-    requires products { ⌜ now products ≡ passes.products (tableOf (now file)) ⌝ }
-    ensures { λ r. ⌜ RootsHeld (tableOf (now (file .entry))) r ⌝ }
+// The roots of an accepted table, by the products of b.
+pub fn roots_of(table: Decoded, products: &[u64; 64]) -> Roots
+    requires sound { ⌜ Sound table ⌝ }
+    requires products { ⌜ now products ≡ passes.products (tableIn table) ⌝ }
+    ensures { λ r. ⌜ RootsHeld (tableIn table) r ⌝ }
 {
     let mut nodes = [0u8; 256];
     let mut weights = [0u64; 32];
-    let count = root_count(file);
+    let count = table.roots;
     let mut i = 0;
     while i < count {
-        let root = root_at(file, i);
-        let node = root.node;
-        let reward = root.reward;
+        let node = Node::new(table.nodes[i]);
+        let reward = table.rewards[i];
         nodes[i + 2] = node.byte();
-        let before = product_before(products, position_of(positions, node));
+        let before = product_before(products, position_of(&table.positions, node));
         weights[i + 2] = reward * before;
         i += 1;
     }

@@ -12,7 +12,7 @@ use Rattle.steps.proofs.Stepping.{fault-none, fault-some}
 use Rattle.reading.proofs.Outcomes.{refused-read, table-read, table-passed, table-choices}
 use Rattle.scoring.specs.Answer.{outcomeOf}
 use Rattle.scoring.proofs.FullPlans.{full-legal}
-use Rattle.scoring.proofs.Requests.{decoded-read, score-refused, score-21, score-22, score-answered}
+use Rattle.scoring.proofs.Requests.{score-refused, score-21, score-22, score-answered}
 use borrow.Author.Needs.{needs}
 use Rattle.scoring.proofs.score.Statement.{statement}
 use Rattle.scoring.proofs.score.Tie as tie

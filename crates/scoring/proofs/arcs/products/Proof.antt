@@ -5,42 +5,44 @@ use native.Mathlib.Omega.{arith}
 use mathlib.Core.Path.{_≡_, _∙_}
 use lib.ListN.{length, getD}
 use borrow.Author.Needs.{needs}
-use Rattle.diagram.specs.Table.{tableOf}
-use Rattle.decoding.proofs.Choosing.{variables-length}
-use Rattle.reading.proofs.Accepted.{passed-variables}
+use Rattle.decoding.specs.Decoding.{tableIn}
+use Rattle.decoding.proofs.Standing.{variables-in}
 use Rattle.scoring.specs.Passes.{products}
 use Rattle.scoring.proofs.Arcing.{From, from-start, from-next, from-all, suffix, suffix-past, suffix-down, suffix-fits}
 use Rattle.scoring.proofs.arcs.products.Statement.{statement}
 use Rattle.scoring.proofs.arcs.products.Tie as tie
 
 abbrev Inv-loop : tie.InvT-loop
-Inv-loop file products₀ p₀ products p = (p ≤ length (tableOf file .variables)) × (p ≤ 60) × From (suffix file) p products
+Inv-loop t products₀ p₀ products p = (p ≤ t .variables) × (p ≤ 60) × From (suffix t) p products
 
 abbrev μ-loop : tie.MeasureT-loop
-μ-loop file products₀ p₀ products p = p
+μ-loop t products₀ p₀ products p = p
 
 -- what the turn writes
-product-read : (c : tie.After-share-sum Inv-loop μ-loop) → getD (c .before .before .before .loop .products) (c .before .before .before .loop .p - 1 + 1) 0 * c .share-sum .result ≡ suffix (c .before .before .before .before .before .before .args .file .now) (c .before .before .before .loop .p - 1)
+product-read : (c : tie.After-share-sum Inv-loop μ-loop) → getD (c .before .before .before .loop .products) (c .before .before .before .loop .p - 1 + 1) 0 * c .share-sum .result ≡ suffix (c .before .before .before .before .args .t1) (c .before .before .before .loop .p - 1)
 product-read c =
-    let file = c .before .before .before .before .before .before .args .file .now in
+    let t = c .before .before .before .before .args .t1 in
     let p = c .before .before .before .loop .p in
-    suffix-down file (p - 1) (omega arith) (c .before .before .before .loop .inv .2 .at (p - 1 + 1) (omega arith) (omega arith)) (c .share-sum .ensures ∙ rw (c .before .new .ensures))
-
-variable-count-requires : tie.Need-variable-count-requires Inv-loop μ-loop
-variable-count-requires c κs = search needs
+    suffix-down t (p - 1) (omega (arith, c .before .before .before .loop .inv .0)) (c .before .before .before .loop .inv .2 .at (p - 1 + 1) (omega arith) (omega arith)) (c .share-sum .ensures)
 
 loop-holds : tie.Need-loop-holds Inv-loop μ-loop
 loop-holds c =
-    let file = c .before .before .args .file .now in
-    let v = variables-length file in
-    let few = passed-variables (c .before .before .pre) in
-    (omega arith, omega arith, from-start _ 1 (λ x l. suffix-past (tableOf file .variables) x (omega arith)))
+    let t = c .args .t1 in
+    let v = variables-in t in
+    let few = c .pre .valid .variables in
+    (omega arith, omega arith, from-start _ 1 (λ x l. suffix-past (tableIn t .variables) x (omega arith)))
 
 sub-p : tie.Need-sub-p Inv-loop μ-loop
 sub-p c = search needs
 
-new-requires : tie.Need-new-requires Inv-loop μ-loop
-new-requires c κs = search needs
+cast-w : tie.Need-cast-w Inv-loop μ-loop
+cast-w c = search needs
+
+mul-w : tie.Need-mul-w Inv-loop μ-loop
+mul-w c = search needs
+
+element-copy-out-w : tie.Need-element-copy-out-w Inv-loop μ-loop
+element-copy-out-w c = search needs
 
 cast-after : tie.Need-cast-after Inv-loop μ-loop
 cast-after c = search needs
@@ -58,7 +60,7 @@ share-sum-requires : tie.Need-share-sum-requires Inv-loop μ-loop
 share-sum-requires c κs = search needs
 
 mul-products : tie.Need-mul-products Inv-loop μ-loop
-mul-products c = rw (product-read c) (omega (arith, suffix-fits (c .before .before .before .before .before .before .pre) (c .before .before .before .loop .p - 1)))
+mul-products c = rw (product-read c) (omega (arith, suffix-fits (c .before .before .before .before .pre) (c .before .before .before .loop .p - 1)))
 
 cast-products : tie.Need-cast-products Inv-loop μ-loop
 cast-products c = search needs
@@ -87,10 +89,11 @@ products-spec =
     (tie.spec
     Inv-loop
     μ-loop
-    variable-count-requires
     loop-holds
     sub-p
-    new-requires
+    cast-w
+    mul-w
+    element-copy-out-w
     cast-after
     add-after
     mul-after

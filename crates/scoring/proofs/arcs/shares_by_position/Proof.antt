@@ -3,45 +3,40 @@
 use Prim.Native.Nat.{ℕ, _-_, _≤_, _<_}
 use native.Mathlib.Omega.{arith}
 use mathlib.Core.Path.{_≡_, ap, sym, _∙_}
-use mathlib.Core.List.{List}
 use lib.ListN.{length, getD, List·getD-eq-default}
 use borrow.Author.Needs.{needs}
-use Rattle.diagram.specs.Table.{Variable, chance, variableOf, tableOf}
-use Rattle.decoding.proofs.Choosing.{variables-length}
-use Rattle.decoding.proofs.Choosing.{variable-at}
+use Rattle.diagram.specs.Table.{Variable, chance, variableOf}
+use Rattle.decoding.specs.declared.table.Decoded.{Decoded}
+use Rattle.decoding.specs.Decoding.{tableIn}
+use Rattle.decoding.proofs.Standing.{variables-in, variable-in}
 use Rattle.scoring.specs.Value.{highShare, lowShare}
 use Rattle.scoring.specs.Passes.{sharesBy}
 use Rattle.scoring.proofs.Arcing.{From, from-start, from-next, from-all}
 use Rattle.scoring.proofs.arcs.shares_by_position.Statement.{statement}
 use Rattle.scoring.proofs.arcs.shares_by_position.Tie as tie
 
--- the variable at a position of a file's table, and the default past the last
-abbrev variable : List ℕ → ℕ → Variable
-variable file x = getD (tableOf file .variables) x (chance 0 1)
+-- the variable at a position of a decoded table, and the default past the last
+abbrev variable : Decoded → ℕ → Variable
+variable t x = getD (tableIn t .variables) x (chance 0 1)
 
 abbrev Inv-loop : tie.InvT-loop
-Inv-loop file high₀ low₀ p₀ high low p =
-    (p ≤ length (tableOf file .variables)) × (p < 64) × From (λ x. highShare (variable file x) 1) p high × From (λ x. lowShare (variable file x) 2) p low
+Inv-loop t high₀ low₀ p₀ high low p =
+    (p ≤ t .variables) × (p < 64) × From (λ x. highShare (variable t x) 1) p high × From (λ x. lowShare (variable t x) 2) p low
 
 abbrev μ-loop : tie.MeasureT-loop
-μ-loop file high₀ low₀ p₀ high low p = p
+μ-loop t high₀ low₀ p₀ high low p = p
 
 -- the variable that a turn reads
-variable-read : (c : tie.After-word-at Inv-loop μ-loop) → variableOf (c .word-at .result) ≡ variable (c .before .before .before .before .before .before .before .args .file .now) (c .before .before .before .before .loop .p - 1)
-variable-read c =
-    let file = c .before .before .before .before .before .before .before .args .file .now in
-    let v = variables-length file in
-    rw (c .word-at .ensures, c .before .word .ensures, c .before .before .new .ensures) (sym (variable-at file (c .before .before .before .before .loop .p - 1) (omega arith)))
-
-variable-count-requires : tie.Need-variable-count-requires Inv-loop μ-loop
-variable-count-requires c κs = search needs
+variable-read : (c : tie.After-w Inv-loop μ-loop) → let t = c .before .before .before .args .t1 in variableOf (getD (t .words) (c .before .before .loop .p - 1) 0) ≡ variable t (c .before .before .loop .p - 1)
+variable-read c = sym (variable-in (c .before .before .before .args .t1) (c .before .before .loop .p - 1) (omega (arith, c .before .before .loop .inv .0)))
 
 loop-holds : tie.Need-loop-holds Inv-loop μ-loop
 unfolding highShare lowShare
 loop-holds c =
-    let file = c .before .before .args .file .now in
-    let v = variables-length file in
-    let past : (x : ℕ) → length (tableOf file .variables) ≤ x → variable file x ≡ chance 0 1 = λ x l. List·getD-eq-default (tableOf file .variables) (chance 0 1) {n = x} l in (
+    let t = c .args .t1 in
+    let v = variables-in t in
+    let few = c .pre .valid .variables in
+    let past : (x : ℕ) → length (tableIn t .variables) ≤ x → variable t x ≡ chance 0 1 = λ x l. List·getD-eq-default (tableIn t .variables) (chance 0 1) {n = x} l in (
       omega arith,
       omega arith,
       from-start _ 0 (λ x l. ap (λ (v : Variable). highShare v 1) (past x (omega arith))),
@@ -51,14 +46,14 @@ loop-holds c =
 sub-p : tie.Need-sub-p Inv-loop μ-loop
 sub-p c = search needs
 
-new-requires : tie.Need-new-requires Inv-loop μ-loop
-new-requires c κs = search needs
+cast-w : tie.Need-cast-w Inv-loop μ-loop
+cast-w c = search needs
 
-word-requires : tie.Need-word-requires Inv-loop μ-loop
-word-requires c κs = search needs
+mul-w : tie.Need-mul-w Inv-loop μ-loop
+mul-w c = search needs
 
-word-at-requires : tie.Need-word-at-requires Inv-loop μ-loop
-word-at-requires c κs = search needs
+element-copy-out-w : tie.Need-element-copy-out-w Inv-loop μ-loop
+element-copy-out-w c = search needs
 
 high-share-requires : tie.Need-high-share-requires Inv-loop μ-loop
 high-share-requires c κs = search needs
@@ -89,7 +84,7 @@ loop-less c = search needs
 
 loop-again : tie.Need-loop-again Inv-loop μ-loop
 loop-again c =
-    let inv = c .before .before .before .before .before .before .loop .inv in
+    let inv = c .before .before .before .before .loop .inv in
     let read = variable-read (c .before .before) in (
       omega arith,
       omega arith,
@@ -110,12 +105,11 @@ shares-by-position-spec =
     (tie.spec
     Inv-loop
     μ-loop
-    variable-count-requires
     loop-holds
     sub-p
-    new-requires
-    word-requires
-    word-at-requires
+    cast-w
+    mul-w
+    element-copy-out-w
     high-share-requires
     cast-high
     mul-high

@@ -4,32 +4,30 @@ use Prim.Native.Nat.{_-_, _≤_}
 use native.Mathlib.Omega.{arith}
 use mathlib.Core.Path.{_≡_, refl, _∙_}
 use borrow.Author.Needs.{needs}
-use Rattle.diagram.specs.Table.{tableOf}
-use Rattle.reading.proofs.Accepted.{passed-records}
+use Rattle.decoding.specs.Decoding.{tableIn}
+use Rattle.decoding.proofs.Standing.{records-in}
 use Rattle.scoring.specs.Value.{highArc, lowArc}
 use Rattle.scoring.proofs.Arcing.{Written, written-start, written-next, written-all, Weighs, high-weighs, low-weighs}
 use Rattle.scoring.proofs.layout.lay_out.Statement.{statement}
 use Rattle.scoring.proofs.layout.lay_out.Tie as tie
 
 abbrev Inv-loop : tie.InvT-loop
-Inv-loop file n positions high low high-arcs₀ low-arcs₀ products shares k₀ high-arcs low-arcs k =
-    (k ≤ n) × (n ≤ 254) × Written (highArc (tableOf file)) high-arcs₀ high-arcs k × Written (lowArc (tableOf file)) low-arcs₀ low-arcs k
+Inv-loop high-arcs₀ low-arcs₀ table products shares n k₀ high-arcs low-arcs k =
+    (k ≤ n) × (n ≤ 254) × Written (highArc (tableIn table)) high-arcs₀ high-arcs k × Written (lowArc (tableIn table)) low-arcs₀ low-arcs k
 
 abbrev μ-loop : tie.MeasureT-loop
-μ-loop file n positions high low high-arcs₀ low-arcs₀ products shares k₀ high-arcs low-arcs k = n - k
+μ-loop high-arcs₀ low-arcs₀ table products shares n k₀ high-arcs low-arcs k = n - k
 
 -- ---------------------------------------------------------------------------
 -- The two arcs of a turn
 
-high-arc : (c : tie.After-of-record Inv-loop μ-loop) → let a = c .before .before .before .before .before .before .args in Weighs (c .before .before .before .before .products .result) (c .before .before .before .shares-by-position .result .high) (a .positions .now) (a .high .now) (c .of-record .result .0) (highArc (tableOf (a .file .now)) (c .before .before .loop .k))
+high-arc : (c : tie.After-of-record Inv-loop μ-loop) → let t = c .before .before .before .before .before .args .t1 in Weighs (c .before .before .before .before .products .result) (c .before .before .before .shares-by-position .result .high) (t .positions) (t .high) (c .of-record .result .0) (highArc (tableIn t) (c .before .before .loop .k))
 high-arc c =
-    let pre = c .before .before .before .before .before .before .pre in
-    rw (c .of-record .ensures) (high-weighs (pre .0 .0) (pre .1 .0) (c .before .before .before .before .products .ensures) (c .before .before .loop .k) (omega arith) (c .before .before .before .shares-by-position .ensures .0))
+    rw (c .of-record .ensures) (high-weighs (c .before .before .before .before .before .pre .0) (c .before .before .before .before .products .ensures) (c .before .before .loop .k) (omega arith) (c .before .before .before .shares-by-position .ensures .0))
 
-low-arc : (c : tie.After-of-record Inv-loop μ-loop) → let a = c .before .before .before .before .before .before .args in Weighs (c .before .before .before .before .products .result) (c .before .before .before .shares-by-position .result .low) (a .positions .now) (a .low .now) (c .of-record .result .0) (lowArc (tableOf (a .file .now)) (c .before .before .loop .k))
+low-arc : (c : tie.After-of-record Inv-loop μ-loop) → let t = c .before .before .before .before .before .args .t1 in Weighs (c .before .before .before .before .products .result) (c .before .before .before .shares-by-position .result .low) (t .positions) (t .low) (c .of-record .result .0) (lowArc (tableIn t) (c .before .before .loop .k))
 low-arc c =
-    let pre = c .before .before .before .before .before .before .pre in
-    rw (c .of-record .ensures) (low-weighs (pre .0 .0) (pre .1 .0) (c .before .before .before .before .products .ensures) (c .before .before .loop .k) (omega arith) (c .before .before .before .shares-by-position .ensures .1))
+    rw (c .of-record .ensures) (low-weighs (c .before .before .before .before .before .pre .0) (c .before .before .before .before .products .ensures) (c .before .before .loop .k) (omega arith) (c .before .before .before .shares-by-position .ensures .1))
 
 -- ---------------------------------------------------------------------------
 -- The needs
@@ -54,16 +52,16 @@ element-write-low-arcs-2 c = search needs
 
 loop-holds : tie.Need-loop-holds Inv-loop μ-loop
 loop-holds c =
-    let start = c .before .before .before in
-    let few = passed-records (start .pre .0 .0) in
-    let sizes = start .pre .1 .1 in
-    (omega arith, omega (arith, start .pre .0 .1), written-start (start .args .high-arcs .now) (sizes .0) refl, written-start (start .args .low-arcs .now) (sizes .1) refl)
+    let start = c .before .before in
+    let few = start .pre .0 .valid .records in
+    let sizes = start .pre .1 in
+    (omega arith, omega (arith, records-in (start .args .t1)), written-start (start .args .high-arcs .now) (sizes .0) refl, written-start (start .args .low-arcs .now) (sizes .1) refl)
 
 of-record-requires : tie.Need-of-record-requires Inv-loop μ-loop
 of-record-requires c κs = search needs
 
 arc-weight-requires : tie.Need-arc-weight-requires Inv-loop μ-loop
-arc-weight-requires c κs = high-arc (c .before .before .before) .weighable
+arc-weight-requires c κs = high-arc (c .before .before .before .before .before .before) .weighable
 
 add-high-arcs : tie.Need-add-high-arcs Inv-loop μ-loop
 add-high-arcs c = search needs
@@ -75,7 +73,7 @@ element-write-high-arcs-3 : tie.Need-element-write-high-arcs-3 Inv-loop μ-loop
 element-write-high-arcs-3 c = search needs
 
 arc-weight-requires-2 : tie.Need-arc-weight-requires-2 Inv-loop μ-loop
-arc-weight-requires-2 c κs = low-arc (c .before .before .before .before .before .before .before) .weighable
+arc-weight-requires-2 c κs = low-arc (c .before .before .before .before .before .before .before .before .before .before .before .before .before) .weighable
 
 add-low-arcs : tie.Need-add-low-arcs Inv-loop μ-loop
 add-low-arcs c = search needs
@@ -94,20 +92,18 @@ loop-less c = search needs
 
 loop-again : tie.Need-loop-again Inv-loop μ-loop
 loop-again c =
-    let inv = c .before .before .before .before .before .before .before .before .before .before .loop .inv in
-    let read = c .before .before .before .before .before .before .before .before in
-    (omega arith, inv .1, written-next _ (inv .2) (omega arith) refl (c .before .before .before .before .arc-weight .ensures ∙ high-arc read .weight), written-next _ (inv .3) (omega arith) refl (c .arc-weight2 .ensures ∙ low-arc read .weight))
+    let inv = c .before .before .before .before .before .before .before .before .before .before .before .before .before .before .before .before .loop .inv in
+    let read = c .before .before .before .before .before .before .before .before .before .before .before .before .before .before in
+    (omega arith, inv .1, written-next _ (inv .2) (omega arith) refl (c .before .before .before .before .before .before .before .arc-weight .ensures ∙ high-arc read .weight), written-next _ (inv .3) (omega arith) refl (c .arc-weight2 .ensures ∙ low-arc read .weight))
 
 roots-of-requires : tie.Need-roots-of-requires Inv-loop μ-loop
-roots-of-requires c κs =
-    let pre = c .before .before .before .before .before .before .pre in
-    (pre .0 .0, (pre .1 .0 .positions, c .before .before .before .before .products .ensures))
+roots-of-requires c κs = (c .before .before .before .before .before .pre .0, c .before .before .before .before .products .ensures)
 
 returns : tie.Need-returns Inv-loop μ-loop
 returns c =
     let at = c .before .before .before .loop in
-    let start = c .before .before .before .before .before .before .before in
-    let e : at .k ≡ start .args .n = omega (arith, c .before .before .loop-test .left, at .inv .0) in (
+    let start = c .before .before .before .before .before .before in
+    let e : at .k ≡ start .args .t1 .records = omega (arith, c .before .before .loop-test .left, at .inv .0) in (
       written-all (start .args .high-arcs .now) (rw e at (at .inv .2)) refl,
       (written-all (start .args .low-arcs .now) (rw e at (at .inv .3)) refl, c .roots-of .ensures),
     )

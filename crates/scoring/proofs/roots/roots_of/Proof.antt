@@ -2,13 +2,12 @@
 use Prim.Native.Nat.{ℕ, _+_, _-_, _*_, _≤_, _<_}
 use native.Mathlib.Nat.{mul-le-mul-right}
 use native.Mathlib.Omega.{arith}
-use mathlib.Core.Path.{_≡_, refl}
-use lib.ListN.{length, length-set}
+use mathlib.Core.Path.{_≡_, refl, ap, sym, _∙_}
+use lib.ListN.{length, getD, length-set}
 use borrow.Author.Needs.{needs}
-use Rattle.diagram.specs.Table.{Table, tableOf}
-use Rattle.decoding.specs.Decoding.{rootAt}
-use Rattle.decoding.proofs.Rooting.{root-is, roots-few}
-use Rattle.decoding.proofs.Shape.{records-length}
+use Rattle.diagram.specs.Table.{Table, Root}
+use Rattle.decoding.specs.Decoding.{tableIn, rootAt}
+use Rattle.decoding.proofs.Standing.{records-in, roots-in, root-in}
 use Rattle.scoring.specs.Value.{place, gap}
 use Rattle.scoring.specs.Passes.{RootsHeldTo}
 use Rattle.scoring.proofs.Bounding.{node-within, node-weighs, node-weight-fits}
@@ -17,51 +16,60 @@ use Rattle.scoring.proofs.roots.roots_of.Statement.{statement}
 use Rattle.scoring.proofs.roots.roots_of.Tie as tie
 
 abbrev Inv-loop : tie.InvT-loop
-Inv-loop file products positions nodes₀ weights₀ count i₀ nodes weights i =
+Inv-loop products table nodes₀ weights₀ count i₀ nodes weights i =
     (i ≤ count)
-    × (count ≡ length (tableOf file .roots))
+    × (count ≡ length (tableIn table .roots))
     × (count ≤ 16)
-    × RootsHeldTo (tableOf file) i nodes weights
+    × RootsHeldTo (tableIn table) i nodes weights
     × (length nodes ≡ 256)
     × (length weights ≡ 32)
 
 abbrev μ-loop : tie.MeasureT-loop
-μ-loop file products positions nodes₀ weights₀ count i₀ nodes weights i = count - i
+μ-loop products table nodes₀ weights₀ count i₀ nodes weights i = count - i
 
--- the root is a record's node with a reward of at most 64
-is-root : (c : tie.After-root-at Inv-loop μ-loop) →
-    let node = c .root-at .result .node .0 in
-    (2 ≤ node) × (node < length (tableOf (c .before .before .before .before .before .args .file .now) .records) + 2) × (c .root-at .result .reward ≤ 64)
+-- root i of the table, as the arrays have it
+root-read : (c : tie.After-reward Inv-loop μ-loop) → let t = c .before .before .before .before .before .args .t1 in rootAt (tableIn t .roots) (c .before .before .before .before .loop .i) ≡ record { node = getD (t .nodes) (c .before .before .before .before .loop .i) 0; reward = getD (t .rewards) (c .before .before .before .before .loop .i) 0 }
+root-read c = root-in (c .before .before .before .before .before .args .t1) (c .before .before .before .before .loop .i) (omega (arith, c .before .before .before .before .loop .inv .1, roots-in (c .before .before .before .before .before .args .t1)))
+
+-- its node
+node-read : (c : tie.After-reward Inv-loop μ-loop) → c .before .new .result .0 ≡ rootAt (tableIn (c .before .before .before .before .before .args .t1) .roots) (c .before .before .before .before .loop .i) .node
+node-read c = c .before .new .ensures ∙ sym (ap (λ (r : Root). r .node) (root-read c))
+
+-- it is a record's node with a reward of at most 64
+is-root : (c : tie.After-reward Inv-loop μ-loop) → let t = c .before .before .before .before .before .args .t1 in let node = c .before .new .result .0 in (2 ≤ node) × (node < length (tableIn t .records) + 2) × (getD (t .rewards) (c .before .before .before .before .loop .i) 0 ≤ 64)
 is-root c =
-    let s = c .before .before .before .before .before .args .file .now in
-    let passed = c .before .before .before .before .before .pre .0 in
-    let found = c .root-at .ensures in
-    let root = root-is s (passed .heading) (passed .roots) (c .before .before .loop .i) (omega (arith, c .before .before .loop .inv .1)) in
-    (omega (arith, found .0, root .within .0), omega (arith, found .0, root .within .1, records-length s), omega (arith, found .1, root .rewards .1))
+    let valid = c .before .before .before .before .before .pre .0 .valid in
+    let i = c .before .before .before .before .loop .i in
+    let node = valid .rooted i (omega (arith, c .before .before .before .before .loop .inv .1)) in
+    let reward = valid .rewards i (omega (arith, c .before .before .before .before .loop .inv .1)) in
+    (omega (arith, node-read c, node .0), omega (arith, node-read c, node .1), omega (arith, ap (λ (r : Root). r .reward) (root-read c), reward))
 
 -- the product of b before it
-weighs : (c : tie.After-product-before Inv-loop μ-loop) → let t = tableOf (c .before .before .before .before .before .before .before .before .before .args .file .now) in c .product-before .result ≡ gap t 0 (place t (c .before .before .before .before .root-at .result .node .0))
+weighs : (c : tie.After-product-before Inv-loop μ-loop) → let t = tableIn (c .before .before .before .before .before .before .before .before .before .before .args .t1) in c .product-before .result ≡ gap t 0 (place t (c .before .before .before .before .before .before .new .result .0))
 weighs c =
-    let pre = c .before .before .before .before .before .before .before .before .before .pre in
-    node-weighs (pre .0) _ refl (pre .1 .0) (pre .1 .1) (is-root (c .before .before .before .before) .1) (c .before .position-of .ensures) (c .product-before .ensures)
+    let pre = c .before .before .before .before .before .before .before .before .before .before .pre in
+    node-weighs (pre .0) (pre .1) (rw (← records-in _) (is-root (c .before .before .before .before .before) .1)) (c .before .position-of .ensures) (c .product-before .ensures)
 
 -- what comes to a root, at the numbers that the code has read
 weight-is : (t : Table) (i : ℕ) {x r b node : ℕ} → x ≡ r * b → b ≡ gap t 0 (place t node) → node ≡ rootAt (t .roots) i .node → r ≡ rootAt (t .roots) i .reward → x ≡ rootAt (t .roots) i .reward * gap t 0 (place t (rootAt (t .roots) i .node))
 weight-is t i ex eb en er = rw (ex, eb, en, er) refl
 
-root-count-requires : tie.Need-root-count-requires Inv-loop μ-loop
-root-count-requires c κs = search needs
-
 loop-holds : tie.Need-loop-holds Inv-loop μ-loop
 loop-holds c =
-    let passed = c .before .before .pre .0 in
-    let count = c .root-count .ensures .0 in
-    (omega arith, count, omega (arith, count, roots-few _ (passed .heading) (passed .roots)), held-start, refl, refl)
+    let count = roots-in (c .args .t1) in
+    (omega arith, sym count, omega (arith, count, c .pre .0 .valid .roots), held-start, refl, refl)
 
-root-at-requires : tie.Need-root-at-requires Inv-loop μ-loop
-root-at-requires c κs =
-    let passed = c .before .before .before .before .pre .0 in
-    (passed .heading, passed .roots, omega (arith, c .before .loop .inv .1))
+element-copy-out-new : tie.Need-element-copy-out-new Inv-loop μ-loop
+element-copy-out-new c = omega (arith, c .before .loop .inv .2)
+
+new-requires : tie.Need-new-requires Inv-loop μ-loop
+new-requires c κs = search needs
+
+mul-reward : tie.Need-mul-reward Inv-loop μ-loop
+mul-reward c = omega (arith, c .before .before .before .loop .inv .2)
+
+element-copy-out-reward : tie.Need-element-copy-out-reward Inv-loop μ-loop
+element-copy-out-reward c = omega (arith, c .before .before .before .loop .inv .2)
 
 byte-requires : tie.Need-byte-requires Inv-loop μ-loop
 byte-requires c κs = search needs
@@ -77,14 +85,14 @@ position-of-requires c κs = search needs
 
 product-before-requires : tie.Need-product-before-requires Inv-loop μ-loop
 product-before-requires c κs =
-    let pre = c .before .before .before .before .before .before .before .before .pre in
-    node-within (pre .0) _ refl (pre .1 .0) (pre .1 .1) (is-root (c .before .before .before) .1) (c .position-of .ensures)
+    let pre = c .before .before .before .before .before .before .before .before .before .pre in
+    node-within (pre .0) (pre .1) (rw (← records-in _) (is-root (c .before .before .before .before) .1)) (c .position-of .ensures)
 
 mul-weights : tie.Need-mul-weights Inv-loop μ-loop
 mul-weights c =
-    let pre = c .before .before .before .before .before .before .before .before .before .pre in
-    let root = is-root (c .before .before .before .before) in
-    let fits = node-weight-fits (pre .0) _ refl (pre .1 .0) (pre .1 .1) (root .1) (c .before .position-of .ensures) in
+    let pre = c .before .before .before .before .before .before .before .before .before .before .pre in
+    let root = is-root (c .before .before .before .before .before) in
+    let fits = node-weight-fits (pre .0) (pre .1) (rw (← records-in _) (root .1)) (c .before .position-of .ensures) in
     omega (arith, weighs c, fits, mul-le-mul-right (c .product-before .result) (root .2))
 
 add-weights : tie.Need-add-weights Inv-loop μ-loop
@@ -104,13 +112,13 @@ loop-less c = search needs
 
 loop-again : tie.Need-loop-again Inv-loop μ-loop
 loop-again c =
-    let inv = c .before .before .before .before .before .before .loop .inv in
-    let root = c .before .before .before .before .root-at .ensures in
-    let is = is-root (c .before .before .before .before) in (
+    let inv = c .before .before .before .before .before .before .before .before .before .loop .inv in
+    let at = c .before .before .before .before .before in
+    let is = is-root at in (
       omega arith,
       inv .1,
       inv .2,
-      rw (c .before .before .byte .ensures) (held-next (inv .3) (omega (arith, inv .2, inv .4), omega (arith, inv .2, inv .5)) (root .0) (is .0, is .1) (weight-is _ _ refl (weighs c) (root .0) (root .1))),
+      rw (c .before .before .before .before .byte .ensures) (held-next (inv .3) (omega (arith, inv .2, inv .4), omega (arith, inv .2, inv .5)) (node-read at) (is .0, is .1) (weight-is _ _ refl (weighs c) (node-read at) (sym (ap (λ (r : Root). r .reward) (root-read at))))),
       simp length-set (inv .4),
       simp length-set (inv .5),
     )
@@ -118,7 +126,7 @@ loop-again c =
 returns : tie.Need-returns Inv-loop μ-loop
 returns c =
     let inv = c .before .loop .inv in
-    let all : c .before .loop .i ≡ c .before .before .root-count .result = omega (arith, inv .0) in
+    let all : c .before .loop .i ≡ c .before .before .args .t1 .roots = omega (arith, inv .0) in
     record { all = inv .1; few = inv .2; held = rw all at (inv .3) }
 
 pub roots-of-spec : {M : Type 1} → statement M
@@ -127,9 +135,11 @@ roots-of-spec =
     (tie.spec
     Inv-loop
     μ-loop
-    root-count-requires
     loop-holds
-    root-at-requires
+    element-copy-out-new
+    new-requires
+    mul-reward
+    element-copy-out-reward
     byte-requires
     add-nodes
     array-write-nodes
