@@ -19,7 +19,7 @@ use Rattle.scoring.specs.Passes.{over, byNode, products, Decoded, marksB
 use Rattle.scoring.proofs.Values.{shares-drop, gap-scale}
 use Rattle.scoring.proofs.Over.{over-at}
 use Rattle.scoring.proofs.Arcing.{products-at, column-position, suffix-gap}
-use Rattle.scoring.proofs.FullPlans.{Legal}
+use Rattle.requesting.proofs.FullPlans.{Legal}
 
 module _ {s : List ℕ} (passed : Passed s) (n : ℕ) (size : n ≡ length (tableOf s .records)) where
   -- the arrays hold the table and the plan

@@ -2,7 +2,6 @@
 pub mod Over
 pub mod Arcing
 pub mod Values
-pub mod FullPlans
 pub mod Forcing
 pub mod Passing
 pub mod Bounding

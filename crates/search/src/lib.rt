@@ -10,8 +10,8 @@ use diagram::Refusal;
 use diagram::least_passing;
 use explore::explore;
 use explore::limits_of;
-use sweep::RequestAnswer;
-use sweep::accept;
+use reading::ReadAnswer;
+use requesting::accept;
 ghost use mathlib.Core.Path.{_≡_};
 ghost use Prim.Native.Nat.{suc, _+_, _≤_, _^_};
 ghost use lib.ListN.{length, take};
@@ -39,8 +39,8 @@ pub fn search(file: &[u8], plan: &[u8], budget: u32, percent: u32, out: &mut [u8
         &mut high,
         &mut low,
     ) {
-        RequestAnswer::Accepted(t) => t,
-        RequestAnswer::Refused(r) => return SearchAnswer::Refused(r),
+        ReadAnswer::Table(t) => t,
+        ReadAnswer::Refused(r) => return SearchAnswer::Refused(r),
     };
     let mut best = [0u8; 20];
     let mut tally = [0u64; 3];

@@ -3,18 +3,17 @@ mod answer;
 mod down;
 mod drops;
 mod forced;
-mod request;
 mod two_pass;
 
 pub use answer::FilterAnswer;
-pub use answer::RequestAnswer;
 pub use answer::SweepAnswer;
 use diagram::Refusal;
 use diagram::least_passing;
 use diagram::passes;
 pub use drops::by_choice;
 use forced::force;
-pub use request::accept;
+use reading::ReadAnswer;
+use requesting::accept;
 use two_pass::two_passes;
 ghost use mathlib.Core.Path.{_≡_};
 ghost use Prim.Native.Nat.{_≤_};
@@ -31,7 +30,7 @@ pub fn sweep(file: &[u8], plan: &[u8], drops: &mut [u64]) -> SweepAnswer
     let mut positions = [0u8; 256];
     let mut high = [0u8; 256];
     let mut low = [0u8; 256];
-    if let RequestAnswer::Refused(r) = accept(
+    if let ReadAnswer::Refused(r) = accept(
         file,
         plan,
         0,
@@ -80,8 +79,8 @@ pub fn filter(file: &[u8], plan: &[u8], percent: u32, out: &mut [u8]) -> FilterA
         &mut high,
         &mut low,
     ) {
-        RequestAnswer::Accepted(t) => t,
-        RequestAnswer::Refused(r) => return FilterAnswer::Refused(r),
+        ReadAnswer::Table(t) => t,
+        ReadAnswer::Refused(r) => return FilterAnswer::Refused(r),
     };
     let swept = two_passes(file, plan, &positions, &high, &low);
     let least = least_passing(percent, t.scale);

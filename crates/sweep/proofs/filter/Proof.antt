@@ -13,9 +13,9 @@ use Rattle.reading.proofs.Outcomes.{numbers}
 use Rattle.scoring.proofs.Requests.{decoded-read}
 use Rattle.sweep.specs.Answer.{filterOf}
 use Rattle.sweep.specs.Drops.{Swept}
-use Rattle.sweep.specs.Request.{requestOutcome}
+use Rattle.requesting.specs.Request.{requestOutcome}
 use Rattle.sweep.proofs.ForcedLines.{none-passes}
-use Rattle.sweep.proofs.Requesting.{Proper, refused-request, accepted-request, accepted-proper, accepted-scale}
+use Rattle.requesting.proofs.Requests.{Proper, refused-request, accepted-request, accepted-proper, accepted-scale}
 use Rattle.sweep.proofs.Serving.{request-swept, filter-turned, filter-31, filter-done}
 use borrow.Author.Needs.{needs}
 use Rattle.sweep.proofs.filter.Statement.{statement}

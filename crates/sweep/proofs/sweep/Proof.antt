@@ -4,7 +4,7 @@ use lib.ListN.{length}
 use Rattle.reading.proofs.Accepted.{passed-choices}
 use Rattle.scoring.proofs.Requests.{decoded-read}
 use Rattle.sweep.specs.Answer.{sweepOf}
-use Rattle.sweep.proofs.Requesting.{Proper, refused-request, accepted-request, accepted-proper}
+use Rattle.requesting.proofs.Requests.{Proper, refused-request, accepted-request, accepted-proper}
 use Rattle.sweep.proofs.Serving.{sweep-turned, sweep-done}
 use borrow.Author.Needs.{needs}
 use Rattle.sweep.proofs.sweep.Statement.{statement}
