@@ -1,10 +1,20 @@
-// The words of a table file, the three numberings of a diagram, plans, which scores pass, and refusals. The meaning is in specs/.
+// The words of a table file, its limits, the three numberings of a diagram, plans, which scores pass, and refusals. The meaning is in specs/.
+mod limits;
 mod numbering;
 mod passing;
 mod plan;
 mod refusal;
 mod word;
 
+pub use limits::MOST_BUDGET;
+pub use limits::MOST_BYTES;
+pub use limits::MOST_MORE_KITS;
+pub use limits::MOST_PARTS;
+pub use limits::MOST_RECORDS;
+pub use limits::MOST_REWARD;
+pub use limits::MOST_ROOTS;
+pub use limits::MOST_SCALE;
+pub use limits::MOST_VARIABLES;
 pub use numbering::Choice;
 pub use numbering::Node;
 pub use numbering::Position;

@@ -17,6 +17,8 @@ impl Plan {
     pub const TAKEN: u8 = 1;
 
     pub const LEFT: u8 = 2;
+    // The mark at a chance, among the marks by position: no plan has it.
+    pub const CHANCE: u8 = 3;
     // The most choices that a table has.
     pub const MOST: usize = 20;
 

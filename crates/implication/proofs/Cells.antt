@@ -12,7 +12,7 @@ use lib.ListN.{length, getD, set, replicate, length-set}
 use lib.Seq.{getD-set-same, getD-set-other}
 use lib.Dec.{eqb}
 use borrow.Author.Tests.{eqb-true, eqb-false, eq-eqb, ne-eqb}
-use Rattle.implication.specs.Nodes.{AtOnce, isKnown, bit, cell, zerosBelow, zeros, Marked}
+use Rattle.implication.specs.Nodes.{AtOnce, isKnown, bit, cell, zerosBelow, zeros, Met}
 use Rattle.implication.proofs.Digits.{shifted-one, set-here, set-others, or-adds}
 
 -- ---------------------------------------------------------------------------
@@ -108,7 +108,7 @@ only-known k m n one =
 -- ---------------------------------------------------------------------------
 -- A cell is marked
 
-pub marked-same : (met : List ℕ) (m n : ℕ) → cell met m n ≡ 1 → Marked met met m n
+pub marked-same : (met : List ℕ) (m n : ℕ) → cell met m n ≡ 1 → Met met met m n
 marked-same met m n one = record { size = refl; here = one; kept = λ p q e. e; others = λ p q _ _. inr refl }
 
 -- the bit of a pair that has not been met is set
@@ -150,7 +150,7 @@ module _ (met : List ℕ) (m n : ℕ) (size : length met ≡ 1024) (lm : m < 256
       (λ f. rw (e, getD-set-same met (m * 4 + n / 64) word 0 (omega arith)) (set-others _ (n % 64) clear (q % 64) f ∙ rw e at one)))
       (λ e. rw (getD-set-other met (m * 4 + n / 64) (p * 4 + q / 64) word 0 e) one)
 
-  marked-new : Marked met after m n
+  marked-new : Met met after m n
   marked-new =
       record {
         size = simp length-set refl;
@@ -164,13 +164,13 @@ module _ (met : List ℕ) (m n : ℕ) (size : length met ≡ 1024) (lm : m < 256
       }
 
   -- with the numbers that the code has read
-  pub marked : {i j k : ℕ} → i ≡ m → j ≡ n → k ≡ n → Marked met (set met (i * 4 + j / 64) (bitOr (getD met (i * 4 + j / 64) 0) (1 * 2 ^ (k % 64) % 2 ^ 64))) m n
+  pub marked : {i j k : ℕ} → i ≡ m → j ≡ n → k ≡ n → Met met (set met (i * 4 + j / 64) (bitOr (getD met (i * 4 + j / 64) 0) (1 * 2 ^ (k % 64) % 2 ^ 64))) m n
   marked ei ej ek = rw (ei, ej, ek, shifted-one n, or-adds _ (n % 64) clear) marked-new
 
 -- ---------------------------------------------------------------------------
 -- How many cells are 0
 
-module _ {met met′ : List ℕ} {m n : ℕ} (marked : Marked met met′ m n) (lm : m < 256) (ln : n < 256) where
+module _ {met met′ : List ℕ} {m n : ℕ} (marked : Met met met′ m n) (lm : m < 256) (ln : n < 256) where
   zeros-before : (i : ℕ) → i ≤ m * 256 + n → zerosBelow met′ i ≡ zerosBelow met i
   unfolding zerosBelow
   zeros-before zero l = refl

@@ -1,7 +1,4 @@
 -- Laws for the proofs of this crate's functions.
-pub mod Choosing
-pub mod Shape
-pub mod Columns
 pub mod Pairing
 pub mod Digits
 pub mod Cells

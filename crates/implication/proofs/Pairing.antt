@@ -11,17 +11,21 @@ use mathlib.Core.List.{List}
 use lib.ListN.{length, getD}
 use lib.Dec.{eqb, leb}
 use borrow.Author.Tests.{eq-eqb, ne-eqb, le-leb, lt-leb}
-use Rattle.diagram.specs.Words.{wordAt}
-use Rattle.diagram.specs.Table.{chance, Record, recordAt, tableOf, variableOf, isChoice, variableCount, recordCount}
+use Rattle.diagram.specs.Table.{Record, Table, recordAt, tableOf, variableOf, isChoice}
 use Rattle.diagram.specs.Score.{walk, truth, implies}
-use Rattle.diagram.specs.Checks.{positionOf, isMonotoneAt}
+use Rattle.diagram.specs.Checks.{positionOf, isMonotoneAt, monotoneFault}
 use Rattle.diagram.proofs.Places.{sequence-at, sequence-past}
 use Rattle.diagram.proofs.Truth.{Formed}
 use Rattle.diagram.proofs.Locality.{position-le, position-less}
 use Rattle.diagram.proofs.Implication.{hiOf, loOf, follow, follow-le, follow-less, follow-later, implies-split}
-use Rattle.implication.specs.Nodes.{column, recordsOf, endOf, Pairs, Held, next, smaller}
-use Rattle.implication.proofs.Choosing.{variables-length}
-use Rattle.implication.proofs.Shape.{heading-variables, heading-records, record-past, shaped-formed}
+use Rattle.decoding.specs.declared.table.Decoded.{Decoded}
+use Rattle.decoding.specs.Nodes.{column}
+use Rattle.decoding.specs.Decoding.{tableIn}
+use Rattle.decoding.proofs.Choosing.{variables-length}
+use Rattle.decoding.proofs.Shape.{records-length}
+use Rattle.decoding.proofs.Columns.{column-at, column-ends}
+use Rattle.decoding.proofs.Standing.{variables-in, variable-in, record-in-past}
+use Rattle.implication.specs.Nodes.{recordsOf, endOf, Pairs, Checkable, monotoneFaultIn, next, smaller}
 
 -- ---------------------------------------------------------------------------
 -- The records that arrays hold
@@ -194,79 +198,73 @@ position-few {ps} {hs} {ls} h n l =
     omega (arith, h .few, position-le (h .formed) n, position-held ps hs ls (h .ends) n l)
 
 -- ---------------------------------------------------------------------------
--- The arrays of a file
+-- The arrays of a decoded table
 
--- the cell of record k
-pub column-at : (end : ℕ) (part : Record → ℕ) (rs : List Record) (k : ℕ) → k < 254 → getD (column end part rs) (k + 2) 0 ≡ part (recordAt rs k)
-unfolding column
-column-at end part rs k l =
-    let at : k + 2 ≡ suc (suc k) = omega arith in
-    rw at (sequence-at (λ i. part (recordAt rs i)) 0 254 k 0 l ∙ rw zero-add)
-
--- the cells of the ends
-column-ends : (part : Record → ℕ) (rs : List Record) (n : ℕ) → n < 2 → _≡_ {A = ℕ} (getD (column 0 part rs) n 0) 0
-unfolding column
-column-ends part rs zero l = refl
-column-ends part rs (suc zero) l = refl
-column-ends part rs (suc (suc n)) l = absurd (omega arith)
-
-pub variable-at : (s : List ℕ) (p : ℕ) → p < variableCount s → getD (tableOf s .variables) p (chance 0 1) ≡ variableOf (wordAt s (1 + p))
-unfolding tableOf
-variable-at s p l = sequence-at (λ i. variableOf (wordAt s i)) 1 (variableCount s) p _ l
-
-module _ {s ps hs ls : List ℕ} (h : Held s ps hs ls) where
-  held-end : endOf ps ≡ variableCount s
+module _ {d : Decoded} (h : Checkable d) where
+  held-end : endOf (d .positions) ≡ d .variables
   unfolding endOf column
-  held-end = rw (h .positions)
+  held-end = rw (h .held .positions)
 
-  held-ends : getD ps 1 0 ≡ endOf ps
+  held-ends : getD (d .positions) 1 0 ≡ endOf (d .positions)
   unfolding endOf column
-  held-ends = rw (h .positions)
+  held-ends = rw (h .held .positions)
 
-  held-records : (k : ℕ) → recordAt (recordsOf ps hs ls) k ≡ recordAt (tableOf s .records) k
+  held-records : (k : ℕ) → recordAt (recordsOf (d .positions) (d .high) (d .low)) k ≡ recordAt (tableIn d .records) k
   held-records k =
+      let part : (cells : List ℕ) (end : ℕ) (f : Record → ℕ) → cells ≡ column end f (tableIn d .records) → k < 254 → getD cells (k + 2) 0 ≡ f (recordAt (tableIn d .records) k) = λ cells end f e l. rw e (column-at end f (tableIn d .records) k l) in
       by-cases (decLt k 254)
-      (λ l. held-at ps hs ls k l ∙ rw (h .positions, h .high, h .low, column-at _ _ _ k l, column-at _ _ _ k l, column-at _ _ _ k l))
-      (λ l. held-past ps hs ls k (omega arith) ∙ sym (record-past s k (omega (arith, heading-records s (h .shaped .heading)))))
+      (λ l. held-at (d .positions) (d .high) (d .low) k l ∙ rw (part _ _ (λ (r : Record). r .position) (h .held .positions) l, part _ _ (λ (r : Record). r .hi) (h .held .high) l, part _ _ (λ (r : Record). r .lo) (h .held .low) l) refl)
+      (λ l. held-past (d .positions) (d .high) (d .low) k (omega arith) ∙ sym (record-in-past d k (omega (arith, h .most))))
 
-  pub held-pairs : Pairs ps hs ls
+  pub held-pairs : Pairs (d .positions) (d .high) (d .low)
   held-pairs =
       record {
-        formed = rw held-end (formed-alike _ _ (λ k. sym (held-records k)) (shaped-formed s (h .shaped)));
+        formed = rw held-end (formed-alike _ _ (λ k. sym (held-records k)) (h .formed));
         ends = held-ends;
-        few = omega (arith, held-end, heading-variables s (h .shaped .heading));
-        highEnds = λ n l. rw (h .high) (column-ends _ _ n l);
-        lowEnds = λ n l. rw (h .low) (column-ends _ _ n l);
+        few = omega (arith, held-end, h .few);
+        highEnds = λ n l. rw (h .held .high) (column-ends _ _ n l);
+        lowEnds = λ n l. rw (h .held .low) (column-ends _ _ n l);
       }
 
-  held-implies : (m n : ℕ) → implies (endOf ps) (recordsOf ps hs ls) m n ≡ implies (length (tableOf s .variables)) (tableOf s .records) m n
-  held-implies m n = rw (held-end, variables-length) (implies-alike _ _ held-records (variableCount s) m n)
+  held-implies : (m n : ℕ) → implies (endOf (d .positions)) (recordsOf (d .positions) (d .high) (d .low)) m n ≡ implies (length (tableIn d .variables)) (tableIn d .records) m n
+  held-implies m n = rw (held-end, variables-in) (implies-alike _ _ held-records (d .variables) m n)
 
   -- the cells of record k
-  held-cells : (k : ℕ) → k < recordCount s → recordAt (tableOf s .records) k ≡ record { position = getD ps (k + 2) 0; hi = getD hs (k + 2) 0; lo = getD ls (k + 2) 0 }
-  held-cells k l = sym (held-records k) ∙ held-at ps hs ls k (omega (arith, heading-records s (h .shaped .heading)))
+  held-cells : (k : ℕ) → k < d .records → recordAt (tableIn d .records) k ≡ record { position = getD (d .positions) (k + 2) 0; hi = getD (d .high) (k + 2) 0; lo = getD (d .low) (k + 2) 0 }
+  held-cells k l = sym (held-records k) ∙ held-at (d .positions) (d .high) (d .low) k (omega (arith, h .most))
+
+  -- a record's position is a variable's
+  pub held-position : (k : ℕ) → k < d .records → getD (d .positions) (k + 2) 0 < 64
+  held-position k l =
+      let before = position-less (h .formed) k in
+      omega (arith, h .few, ap (λ (r : Record). r .position) (held-cells k l))
 
   -- check 18's test of record k, as the arrays have it
-  pub held-test : (k : ℕ) → k < recordCount s → isMonotoneAt (tableOf s) k ≡ (not (isChoice (variableOf (wordAt s (1 + getD ps (k + 2) 0)))) || implies (endOf ps) (recordsOf ps hs ls) (getD ls (k + 2) 0) (getD hs (k + 2) 0))
+  pub held-test : (k : ℕ) → k < d .records → isMonotoneAt (tableIn d) k ≡ (not (isChoice (variableOf (getD (d .words) (getD (d .positions) (k + 2) 0) 0))) || implies (endOf (d .positions)) (recordsOf (d .positions) (d .high) (d .low)) (getD (d .low) (k + 2) 0) (getD (d .high) (k + 2) 0))
   unfolding isMonotoneAt
   held-test k l =
-      let before = position-less (shaped-formed s (h .shaped)) k in
-      rw (held-implies, variable-at s _ before, held-cells k l)
+      let before = position-less (h .formed) k in
+      rw (held-implies, variable-in d _ before, held-cells k l)
 
   -- the same at the numbers that the code has read: a record that is no choice's, and one whose children are decided
-  pub held-chance : (k : ℕ) → k < recordCount s → {node at : ℕ} {test : Bool} → node ≡ k + 2 → at ≡ getD ps node 0 → test ≡ isChoice (variableOf (wordAt s (1 + at))) → test ≡ false → true ≡ isMonotoneAt (tableOf s) k
+  pub held-chance : (k : ℕ) → k < d .records → {node at : ℕ} {test : Bool} → node ≡ k + 2 → at ≡ getD (d .positions) node 0 → test ≡ isChoice (variableOf (getD (d .words) at 0)) → test ≡ false → true ≡ isMonotoneAt (tableIn d) k
   held-chance k l en ea et left = rw (held-test k l, ← en, ← ea, ← et, left)
 
-  pub held-choice : (k : ℕ) → k < recordCount s → {node at lo hi : ℕ} {test r : Bool} → node ≡ k + 2 → at ≡ getD ps node 0 → test ≡ isChoice (variableOf (wordAt s (1 + at))) → test ≡ true → lo ≡ getD ls node 0 → hi ≡ getD hs node 0 → r ≡ implies (endOf ps) (recordsOf ps hs ls) lo hi → r ≡ isMonotoneAt (tableOf s) k
+  pub held-choice : (k : ℕ) → k < d .records → {node at lo hi : ℕ} {test r : Bool} → node ≡ k + 2 → at ≡ getD (d .positions) node 0 → test ≡ isChoice (variableOf (getD (d .words) at 0)) → test ≡ true → lo ≡ getD (d .low) node 0 → hi ≡ getD (d .high) node 0 → r ≡ implies (endOf (d .positions)) (recordsOf (d .positions) (d .high) (d .low)) lo hi → r ≡ isMonotoneAt (tableIn d) k
   held-choice k l en ea et taken elo ehi er = rw (held-test k l, ← en, ← ea, ← et, taken, ← elo, ← ehi) er
 
 -- ---------------------------------------------------------------------------
--- Check 18's test of a word
+-- Check 18's test of a word, of a table of v variables
 
-abbrev pub unmonotone-at : List ℕ → ℕ → Bool
-unmonotone-at s i = not (isMonotoneAt (tableOf s) (i - (1 + variableCount s)))
+abbrev pub unmonotone-at : Table → ℕ → Bool
+unmonotone-at t i = not (isMonotoneAt t (i - (1 + length (t .variables))))
 
-pub unmonotone-test : (s : List ℕ) (k : ℕ) {b : Bool} → b ≡ isMonotoneAt (tableOf s) k → unmonotone-at s (1 + variableCount s + k) ≡ not b
-unmonotone-test s k e =
-    let back : 1 + variableCount s + k - (1 + variableCount s) ≡ k = omega arith in
+pub unmonotone-test : (t : Table) (k : ℕ) {b : Bool} → b ≡ isMonotoneAt t k → unmonotone-at t (1 + length (t .variables) + k) ≡ not b
+unmonotone-test t k e =
+    let back : 1 + length (t .variables) + k - (1 + length (t .variables)) ≡ k = omega arith in
     rw (back, e)
+
+-- a file's check 18 is that of its table
+pub fault-of-table : (s : List ℕ) → monotoneFaultIn (tableOf s) ≡ monotoneFault s
+unfolding monotoneFaultIn monotoneFault
+fault-of-table s = rw (variables-length, records-length) refl

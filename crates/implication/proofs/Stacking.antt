@@ -11,12 +11,12 @@ use mathlib.Mathlib.Data.Bool.Basic.{eq-false-of-not-eq-true}
 use lib.ListN.{length, getD, set, replicate, length-set, length-replicate}
 use lib.Seq.{getD-set-same, getD-set-other}
 use borrow.Author.Tests.{le-leb}
-use Rattle.diagram.specs.Table.{Record, recordCount, variableOf, isChoice}
-use Rattle.diagram.specs.Words.{wordAt}
+use Rattle.diagram.specs.Table.{Record, variableOf, isChoice}
 use Rattle.diagram.specs.Score.{implies}
 use Rattle.diagram.proofs.Every.{both, and-true-both}
 use Rattle.diagram.proofs.Implication.{implies-false-end, implies-true-end, implies-same, implies-ends}
-use Rattle.implication.specs.Nodes.{recordsOf, endOf, Held, Pairs, next, smaller, cell, AtOnce, zeros, Marked, Room, PassedOn, Waits, Stack, Explored}
+use Rattle.decoding.specs.declared.table.Decoded.{Decoded}
+use Rattle.implication.specs.Nodes.{recordsOf, endOf, Checkable, Pairs, next, smaller, cell, AtOnce, zeros, Met, Room, PassedOn, Waits, Stack, Explored}
 use Rattle.implication.proofs.Cells.{cell-le, origin-cell, only-known, zeros-marked}
 use Rattle.implication.proofs.Pairing.{Meets, next-le, next-less, next-later, next-split, position-few, held-chance, held-choice}
 
@@ -52,7 +52,7 @@ pub record Meeting (met firsts seconds : List ℕ) (depth m n : ℕ) (met′ fir
   pub m-small : m < 256
   pub n-small : n < 256
   pub end : depth′ ≡ depth + (1 - cell met m n)
-  pub cells : Marked met met′ m n
+  pub cells : Met met met′ m n
   pub ones : firsts′ ≡ set firsts depth m
   pub twos : seconds′ ≡ set seconds depth n
 
@@ -368,15 +368,15 @@ pub ask : {ps hs ls met firsts seconds met′ firsts′ seconds′ : List ℕ} {
 ask {m} {n} h g = meet h g (λ _. omega arith) m n (here h g) (λ t. (implies-false-end _ _ 0, t))
 
 -- with the numbers that the code has read: the record's node, its position, and whether a choice stands there
-module _ {s ps hs ls : List ℕ} (held : Held s ps hs ls) {k node at : ℕ} {test : Bool} (l : k < recordCount s) (en : node ≡ k + 2) (ea : at ≡ getD ps node 0) (et : test ≡ isChoice (variableOf (wordAt s (1 + at)))) where
-  pub explored-chance : {met firsts seconds : List ℕ} → test ≡ false → Stack ps hs ls met firsts seconds 0 0 0 0 0 → Explored s ps hs ls met firsts seconds k
+module _ {d : Decoded} (held : Checkable d) {k node at : ℕ} {test : Bool} (l : k < d .records) (en : node ≡ k + 2) (ea : at ≡ getD (d .positions) node 0) (et : test ≡ isChoice (variableOf (getD (d .words) at 0))) where
+  pub explored-chance : {met firsts seconds : List ℕ} → test ≡ false → Stack (d .positions) (d .high) (d .low) met firsts seconds 0 0 0 0 0 → Explored d met firsts seconds k
   explored-chance left h =
       record {
         fault = λ e. absurd (false≢true (sym (refuted h e) ∙ implies-false-end _ _ 0));
         passes = λ e. (sym (held-chance held k l en ea et left), h);
       }
 
-  pub explored-choice : {met firsts seconds met′ firsts′ seconds′ met″ firsts″ seconds″ : List ℕ} {depth depth′ lo hi : ℕ} → test ≡ true → lo ≡ getD ls node 0 → hi ≡ getD hs node 0 → Meeting met firsts seconds depth lo hi met′ firsts′ seconds′ depth′ → Stack ps hs ls met″ firsts″ seconds″ lo hi 0 0 0 → Explored s ps hs ls met″ firsts″ seconds″ k
+  pub explored-choice : {met firsts seconds met′ firsts′ seconds′ met″ firsts″ seconds″ : List ℕ} {depth depth′ lo hi : ℕ} → test ≡ true → lo ≡ getD (d .low) node 0 → hi ≡ getD (d .high) node 0 → Meeting met firsts seconds depth lo hi met′ firsts′ seconds′ depth′ → Stack (d .positions) (d .high) (d .low) met″ firsts″ seconds″ lo hi 0 0 0 → Explored d met″ firsts″ seconds″ k
   explored-choice taken elo ehi g h =
       record {
         fault = λ e. sym (held-choice held k l en ea et taken elo ehi (sym (refuted h e)));

@@ -1,27 +1,20 @@
--- The arrays by node number that a table's records are copied to, and the stack of pairs of nodes.
+-- Check 18 of a decoded table: the pairs of nodes that are met, and the stack of those to be passed on.
 use Prim.Native.Nat.{ℕ, zero, suc, _+_, _-_, _*_, _/_, _%_, _^_, _≤_, _<_, min}
 use mathlib.Core.Path.{_≡_}
-use mathlib.Core.Bool.{Bool, true, false, cond}
+use mathlib.Core.Bool.{Bool, true, false, cond, not}
 use mathlib.Core.Logic.{_⊎_}
-use mathlib.Core.Option.{none}
-use mathlib.Core.List.{List, _∷_}
-use lib.ListN.{length, getD, take}
+use mathlib.Core.Option.{Option}
+use mathlib.Core.List.{List}
+use lib.ListN.{length, getD}
 use lib.Dec.{eqb, leb}
-use Rattle.diagram.specs.Table.{Record, sequence, recordAt, tableOf, variableCount}
+use Rattle.diagram.specs.Table.{Record, Table, sequence}
 use Rattle.diagram.specs.Score.{implies}
-use Rattle.diagram.specs.Checks.{headingFault, recordFault, positionOf, isMonotoneAt}
+use Rattle.diagram.specs.Checks.{firstPlace, isMonotoneAt}
 use Rattle.diagram.proofs.Truth.{Formed}
+use Rattle.decoding.specs.declared.table.Decoded.{Decoded}
+use Rattle.decoding.specs.Decoding.{tableIn, Held}
 
--- One part of every record, at its node's number, with `end` for the two ends. There are 256 nodes at most.
-unfoldable pub column : ℕ → (Record → ℕ) → List Record → List ℕ
-column end part rs = end ∷ end ∷ sequence (λ k. part (recordAt rs k)) 0 254
-
--- An array has `end` for the two ends, and one part of the first k records
-pub record Filled (end : ℕ) (part : ℕ → ℕ) (cells : List ℕ) (k : ℕ) : Type 0 where
-  pub size : length cells ≡ 256
-  pub front : take (k + 2) cells ≡ end ∷ end ∷ sequence part 0 k
-
--- The records that three such arrays hold
+-- The records that three arrays by node number hold, with room for 254
 unfoldable pub recordsOf : (positions high low : List ℕ) → List Record
 recordsOf ps hs ls =
     sequence (λ k. record { position = getD ps (k + 2) 0; hi = getD hs (k + 2) 0; lo = getD ls (k + 2) 0 }) 0 254
@@ -30,21 +23,20 @@ recordsOf ps hs ls =
 unfoldable pub endOf : (positions : List ℕ) → ℕ
 endOf ps = getD ps 0 0
 
--- The array has the positions of the two ends and of the first k records
-pub record Placed (v : ℕ) (rs : List Record) (ps : List ℕ) (k : ℕ) : Type 0 where
-  pub at : (n : ℕ) → n < k + 2 → getD ps n 0 ≡ positionOf v rs n
+-- A decoded table whose records are formed, as check 17 leaves them, within the limits of check 12
+pub record Checkable (d : Decoded) : Type 0 where
+  pub held : Held d
+  pub formed : Formed (d .variables) (tableIn d .records)
+  pub few : d .variables ≤ 60
+  pub most : d .records ≤ 254
 
--- A file whose heading and records are right, as the checks 12 and 17 find them
-pub record Shaped (s : List ℕ) : Type 0 where
-  pub heading : headingFault s ≡ none
-  pub records : recordFault s ≡ none
-
--- The arrays hold the records of such a file
-pub record Held (s ps hs ls : List ℕ) : Type 0 where
-  pub shaped : Shaped s
-  pub positions : ps ≡ column (variableCount s) (λ (r : Record). r .position) (tableOf s .records)
-  pub high : hs ≡ column 0 (λ (r : Record). r .hi) (tableOf s .records)
-  pub low : ls ≡ column 0 (λ (r : Record). r .lo) (tableOf s .records)
+-- 18 of a table: the word of the first record that is not monotone
+unfoldable pub monotoneFaultIn : Table → Option ℕ
+monotoneFaultIn t =
+    firstPlace
+    (λ i. not (isMonotoneAt t (i - (1 + length (t .variables)))))
+    (1 + length (t .variables))
+    (length (t .records))
 
 -- What passing a pair on needs: arrays that hold records as check 17 wants them, both ends at one position, which is at most
 -- 60, and 0 for the ends' children
@@ -89,7 +81,7 @@ unfoldable pub zeros : List ℕ → ℕ
 zeros met = zerosBelow met 65536
 
 -- The cells of met′ are those of met, but for that of the pair m, n, which is 1
-pub record Marked (met met′ : List ℕ) (m n : ℕ) : Type 0 where
+pub record Met (met met′ : List ℕ) (m n : ℕ) : Type 0 where
   pub size : length met′ ≡ length met
   pub here : cell met′ m n ≡ 1
   pub kept : (p q : ℕ) → cell met p q ≡ 1 → cell met′ p q ≡ 1
@@ -129,6 +121,6 @@ pub record Stack (ps hs ls met firsts seconds : List ℕ) (a b m n depth : ℕ) 
 
 -- What passing on all pairs that record k leads to gives: the pair of true and false is met where the record is not
 -- monotone, and else all pairs met imply
-pub record Explored (s ps hs ls met firsts seconds : List ℕ) (k : ℕ) : Type 0 where
-  pub fault : cell met 1 0 ≡ 1 → isMonotoneAt (tableOf s) k ≡ false
-  pub passes : (cell met 1 0 ≡ 1 → ⊥) → (isMonotoneAt (tableOf s) k ≡ true) × Stack ps hs ls met firsts seconds 0 0 0 0 0
+pub record Explored (d : Decoded) (met firsts seconds : List ℕ) (k : ℕ) : Type 0 where
+  pub fault : cell met 1 0 ≡ 1 → isMonotoneAt (tableIn d) k ≡ false
+  pub passes : (cell met 1 0 ≡ 1 → ⊥) → (isMonotoneAt (tableIn d) k ≡ true) × Stack (d .positions) (d .high) (d .low) met firsts seconds 0 0 0 0 0

@@ -4,11 +4,10 @@
 // or have been met, until the stack is empty, and a record is at fault where the pair of true and false is met. A pair leads to
 // pairs at later positions, so that the stack has at most two pairs more than the table has variables. The pairs met are bits of
 // an array, 256 for each first node.
-use crate::nodes::child_of;
-use crate::nodes::position_of;
-use crate::variables::is_choice;
-use crate::words::record_count;
-use crate::words::variable_count;
+use decoding::Decoded;
+use decoding::child_of;
+use decoding::is_choice_at;
+use decoding::position_of;
 use diagram::Node;
 use diagram::Position;
 use steps::Fault;
@@ -16,53 +15,36 @@ ghost use mathlib.Core.Path.{_≡_};
 ghost use Prim.Native.Nat.{ℕ, suc, _+_, _-_, _<_};
 ghost use lib.ListN.{length, set};
 ghost use lib.Dec.{eqb};
-ghost use Rattle.diagram.specs.Table.{recordCount};
-ghost use Rattle.diagram.specs.Checks.{monotoneFault};
+ghost use Rattle.decoding.specs.Decoding.{tableIn};
+ghost use Rattle.implication.specs.Nodes.{Checkable, monotoneFaultIn, next, isKnown, cell, zeros, Met, Room, Stack, Explored};
 ghost use Rattle.steps.specs.Steps.{faultOf};
-ghost use Rattle.implication.specs.Nodes.{Held, next, isKnown, cell, zeros, Marked, Room, Stack, Explored};
 
-// Check 18. The arrays hold the records of a file that the checks before let through.
-pub fn monotone_fault(
-    file: &[u8],
-    positions: &[u8; 256],
-    high: &[u8; 256],
-    low: &[u8; 256],
-) -> Fault
-    requires { ⌜ Held (now file) (now positions) (now high) (now low) ⌝ }
-    ensures { λ r. ⌜ r ≡ faultOf (monotoneFault (now (file .entry))) ⌝ }
+// Check 18, of a decoded table whose records are formed, as check 17 leaves them.
+pub fn monotone_fault(t: Decoded) -> Fault
+    requires { ⌜ Checkable t ⌝ }
+    ensures { λ r. ⌜ r ≡ faultOf (monotoneFaultIn (tableIn t)) ⌝ }
 {
     let mut met = [0u64; 1024];
     let mut firsts = [0u8; 128];
     let mut seconds = [0u8; 128];
-    first_fault(
-        file,
-        &mut met,
-        &mut firsts,
-        &mut seconds,
-        positions,
-        high,
-        low,
-    )
+    first_fault(t, &mut met, &mut firsts, &mut seconds)
 }
 
-// The first record at fault. The arrays hold the file's records.
+// The first record at fault. Nothing has been met, and the stack is empty.
 fn first_fault(
-    file: &[u8],
+    t: Decoded,
     met: &mut [u64; 1024],
     firsts: &mut [u8; 128],
     seconds: &mut [u8; 128],
-    positions: &[u8; 256],
-    high: &[u8; 256],
-    low: &[u8; 256],
 ) -> Fault
-    requires { ⌜ Held (now file) (now positions) (now high) (now low) × Stack (now positions) (now high) (now low) (now met) (now firsts) (now seconds) 0 0 0 0 0 ⌝ }
-    ensures { λ r. ⌜ r ≡ faultOf (monotoneFault (now (file .entry))) ⌝ }
+    requires { ⌜ Checkable t × Stack (t .positions) (t .high) (t .low) (now met) (now firsts) (now seconds) 0 0 0 0 0 ⌝ }
+    ensures { λ r. ⌜ r ≡ faultOf (monotoneFaultIn (tableIn t)) ⌝ }
 {
-    let end = Position::new(variable_count(file));
-    let n = record_count(file);
+    let end = Position::new(t.variables);
+    let n = t.records;
     let mut k = 0;
     while k < n {
-        explore_record(file, met, firsts, seconds, positions, high, low, k);
+        explore_record(t, met, firsts, seconds, k);
         if is_met(met, Node::new(1), Node::new(0)) {
             return Fault::At(end.word() + k);
         }
@@ -73,41 +55,34 @@ fn first_fault(
 
 // Meets the pair of a choice record's children, low and high, and all pairs that it leads to.
 fn explore_record(
-    file: &[u8],
+    t: Decoded,
     met: &mut [u64; 1024],
     firsts: &mut [u8; 128],
     seconds: &mut [u8; 128],
-    positions: &[u8; 256],
-    high: &[u8; 256],
-    low: &[u8; 256],
     k: usize,
 )
-    requires { ⌜ Held (now file) (now positions) (now high) (now low) × (k < recordCount (now file)) × Stack (now positions) (now high) (now low) (now met) (now firsts) (now seconds) 0 0 0 0 0 ⌝ }
-    ensures { λ _. ⌜ Explored (now (file .entry)) (now (positions .entry)) (now (high .entry)) (now (low .entry)) (now (met .exit)) (now (firsts .exit)) (now (seconds .exit)) k ⌝ }
+    requires { ⌜ Checkable t × (k < t .records) × Stack (t .positions) (t .high) (t .low) (now met) (now firsts) (now seconds) 0 0 0 0 0 ⌝ }
+    ensures { λ _. ⌜ Explored t (now (met .exit)) (now (firsts .exit)) (now (seconds .exit)) k ⌝ }
 {
     let node = Node::of_record(k);
-    if !is_choice(file, position_of(positions, node)) {
+    let at = position_of(&t.positions, node);
+    if !is_choice_at(&t.words, at) {
         return;
     }
-    let depth = meet(
-        met,
-        firsts,
-        seconds,
-        0,
-        child_of(low, node),
-        child_of(high, node),
-    );
-    explore(met, firsts, seconds, positions, high, low, depth);
+    let low = child_of(&t.low, node);
+    let high = child_of(&t.high, node);
+    let depth = meet(met, firsts, seconds, 0, low, high);
+    explore(met, firsts, seconds, &t.positions, &t.high, &t.low, depth);
 }
 
 // Passes on every pair of the stack, and those that are met on the way, until the stack is empty.
-fn explore(
+fn explore<'a>(
     met: &mut [u64; 1024],
     firsts: &mut [u8; 128],
     seconds: &mut [u8; 128],
-    positions: &[u8; 256],
-    high: &[u8; 256],
-    low: &[u8; 256],
+    positions: &'a [u8; 256],
+    high: &'a [u8; 256],
+    low: &'a [u8; 256],
     start: usize,
 )
     requires { ⌜ ((a : ℕ) × (b : ℕ) × Stack (now positions) (now high) (now low) (now met) (now firsts) (now seconds) a b 0 0 start) ⌝ }
@@ -166,7 +141,7 @@ fn meet(
 ) -> usize
     requires { ⌜ Room (now met) (now firsts) (now seconds) depth ⌝ }
     ensures depth { λ r. ⌜ r ≡ depth + (1 - cell (now (met .entry)) (m .0) (n .0)) ⌝ }
-    ensures met { λ _. ⌜ Marked (now (met .entry)) (now (met .exit)) (m .0) (n .0) ⌝ }
+    ensures met { λ _. ⌜ Met (now (met .entry)) (now (met .exit)) (m .0) (n .0) ⌝ }
     ensures firsts { λ _. ⌜ now (firsts .exit) ≡ set (now (firsts .entry)) depth (m .0) ⌝ }
     ensures seconds { λ _. ⌜ now (seconds .exit) ≡ set (now (seconds .entry)) depth (n .0) ⌝ }
 {
@@ -206,7 +181,7 @@ fn is_known(m: Node, n: Node) -> bool
 // Marks a pair as met that is neither known to imply nor met before.
 fn mark(met: &mut [u64; 1024], m: Node, n: Node)
     requires { ⌜ (length (now met) ≡ 1024) × (cell (now met) (m .0) (n .0) ≡ 0) ⌝ }
-    ensures { λ _. ⌜ Marked (now (met .entry)) (now (met .exit)) (m .0) (n .0) ⌝ }
+    ensures { λ _. ⌜ Met (now (met .entry)) (now (met .exit)) (m .0) (n .0) ⌝ }
 {
     let i = m.number() * 4 + n.number() / 64;
     met[i] |= 1 << (n.number() % 64);

@@ -1,2 +1,3 @@
--- The ranking of two plans by what a search holds of each.
+-- What a search holds, and the ranking of two plans by it.
 pub mod Ranks
+pub mod Tally

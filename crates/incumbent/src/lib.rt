@@ -1,28 +1,35 @@
-// What a search holds, in three numbers: the least bound that is worth a visit, the room of the best plan held, which is 0 where
-// none is held, and the visits. A plan's room is the kits that it leaves and one more, and 0 where it costs more than the budget.
-// The marks of the best plan held stand beside them.
+// What a search holds, in three numbers: the cutoff, which is the least bound that is worth a visit, the room of the best plan held,
+// which is 0 where none is held, and the visits. A plan's room is the kits that it leaves and one more, and 0 where it costs more
+// than the budget. The marks of the best plan held stand beside them.
 use diagram::Plan;
 use diagram::passes;
 ghost use mathlib.Core.Path.{_≡_};
-ghost use mathlib.Core.Bool.{cond, not, _||_};
-ghost use Prim.Native.Nat.{_+_, _<_, _^_};
-ghost use lib.ListN.{length, getD, set};
+ghost use mathlib.Core.Bool.{not, _||_};
+ghost use Prim.Native.Nat.{_<_, _^_};
+ghost use lib.ListN.{length};
 ghost use lib.Dec.{eqb, leb};
 ghost use Rattle.diagram.specs.Ranking.{takesFirst};
-ghost use Rattle.incumbent.specs.Ranks.{ranksOver};
+ghost use Rattle.incumbent.specs.Tally.{cutoff, visitsCounted, visitAdded, ranksOverHeld, bestKept, tallyKept};
+
+// The places of the three numbers.
+pub const CUTOFF: usize = 0;
+
+pub const ROOM: usize = 1;
+
+pub const VISITS: usize = 2;
 
 // One visit more. There is room: `visit` shows that a search makes at most 2^21 visits.
 pub fn count(tally: &mut [u64; 3])
-    requires { ⌜ (length (now tally) ≡ 3) × (getD (now tally) 2 0 < 2 ^ 63) ⌝ }
-    ensures { λ _. ⌜ now (tally .exit) ≡ set (now (tally .entry)) 2 (getD (now (tally .entry)) 2 0 + 1) ⌝ }
+    requires { ⌜ (length (now tally) ≡ 3) × (visitsCounted (now tally) < 2 ^ 63) ⌝ }
+    ensures { λ _. ⌜ now (tally .exit) ≡ visitAdded (now (tally .entry)) ⌝ }
 {
-    let visits = tally[2];
-    tally[2] = visits + 1;
+    let visits = tally[VISITS];
+    tally[VISITS] = visits + 1;
 }
 
 // Whether a visit goes back: the plan costs more than the budget, or its bound is less than any that is worth a visit.
 pub fn goes_back(tally: &[u64; 3], room: u64, bound: u64) -> bool
-    ensures { λ r. ⌜ r ≡ (eqb room 0 || not (leb (getD (now (tally .entry)) 0 0) bound)) ⌝ }
+    ensures { λ r. ⌜ r ≡ (eqb room 0 || not (leb (cutoff (now (tally .entry))) bound)) ⌝ }
 {
     if room == 0 {
         return true;
@@ -33,23 +40,23 @@ pub fn goes_back(tally: &[u64; 3], room: u64, bound: u64) -> bool
 // Whether a bound is less than any that is worth a visit: it does not pass, or it is less than the score of the plan held, which
 // passes, so that one test is enough.
 pub fn is_beaten(tally: &[u64; 3], bound: u64) -> bool
-    ensures { λ r. ⌜ r ≡ not (leb (getD (now (tally .entry)) 0 0) bound) ⌝ }
+    ensures { λ r. ⌜ r ≡ not (leb (cutoff (now (tally .entry))) bound) ⌝ }
 {
-    !passes(tally[0], bound)
+    !passes(tally[CUTOFF], bound)
 }
 
 // The finished plan becomes the best held if it ranks before it, as it does where none is held. The lengths are the arrays' own;
 // `visit` keeps them.
 pub fn keep(marks: &[u8; 20], best: &mut [u8; 20], tally: &mut [u64; 3], room: u64, bound: u64)
     requires { ⌜ (length (now marks) ≡ 20) × (length (now best) ≡ 20) × (length (now tally) ≡ 3) ⌝ }
-    ensures best { λ _. ⌜ now (best .exit) ≡ cond (ranksOver bound room (now (marks .entry)) (getD (now (tally .entry)) 0 0) (getD (now (tally .entry)) 1 0) (now (best .entry))) (now (marks .entry)) (now (best .entry)) ⌝ }
-    ensures tally { λ _. ⌜ now (tally .exit) ≡ cond (ranksOver bound room (now (marks .entry)) (getD (now (tally .entry)) 0 0) (getD (now (tally .entry)) 1 0) (now (best .entry))) (set (set (now (tally .entry)) 0 bound) 1 room) (now (tally .entry)) ⌝ }
+    ensures best { λ _. ⌜ now (best .exit) ≡ bestKept bound room (now (marks .entry)) (now (tally .entry)) (now (best .entry)) ⌝ }
+    ensures tally { λ _. ⌜ now (tally .exit) ≡ tallyKept bound room (now (marks .entry)) (now (tally .entry)) (now (best .entry)) ⌝ }
 {
     if !ranks_before(marks, best, tally, room, bound) {
         return;
     }
-    tally[0] = bound;
-    tally[1] = room;
+    tally[CUTOFF] = bound;
+    tally[ROOM] = room;
     copy(marks, best);
 }
 
@@ -69,13 +76,13 @@ fn copy(marks: &[u8; 20], best: &mut [u8; 20])
 // the first line where they differ.
 fn ranks_before(marks: &[u8; 20], best: &[u8; 20], tally: &[u64; 3], room: u64, bound: u64) -> bool
     requires { ⌜ (length (now marks) ≡ 20) × (length (now best) ≡ 20) ⌝ }
-    ensures { λ r. ⌜ r ≡ ranksOver bound room (now (marks .entry)) (getD (now (tally .entry)) 0 0) (getD (now (tally .entry)) 1 0) (now (best .entry)) ⌝ }
+    ensures { λ r. ⌜ r ≡ ranksOverHeld bound room (now (marks .entry)) (now (tally .entry)) (now (best .entry)) ⌝ }
 {
-    if bound != tally[0] {
-        return tally[0] < bound;
+    if bound != tally[CUTOFF] {
+        return tally[CUTOFF] < bound;
     }
-    if room != tally[1] {
-        return tally[1] < room;
+    if room != tally[ROOM] {
+        return tally[ROOM] < room;
     }
     takes_first(marks, best)
 }

@@ -17,7 +17,7 @@ use Rattle.scoring.specs.Value.{place, value, gap, variableAt, markAt, lowArc}
 use Rattle.scoring.specs.Passes.{over, markOf, highInForce, markAtNode, RootsHeld, Marked}
 use Rattle.scoring.proofs.Over.{over-sequence-at}
 use Rattle.scoring.proofs.Passing.{mark-at-node}
-use Rattle.reading.specs.Roots.{rootAt}
+use Rattle.decoding.specs.Decoding.{rootAt}
 use Rattle.sweep.specs.Down.{rootWeight}
 use Rattle.sweep.specs.Drops.{isOf}
 use Rattle.sweep.proofs.RootWeights.{held-rooted}

@@ -21,7 +21,7 @@ use Rattle.diagram.proofs.Every.{both, and-true-both}
 use Rattle.diagram.proofs.FirstVariable.{score-le-scale}
 use Rattle.scoring.specs.Value.{place, marksFrom, valueFrom, value, variableAt, markAt, highShare, lowShare, highWeight, lowWeight, highArc, lowArc}
 use Rattle.scoring.specs.Passes.{markOf, highInForce}
-use Rattle.sweep.specs.Drops.{isOf, shortfall}
+use Rattle.sweep.specs.Drops.{isOf, valueLoss}
 use Rattle.sweep.proofs.Leaving.{openTaken-set, open-taken, within-plan, choices-later, weights-taken, weights-left, weights-same, mark-number}
 use Rattle.sweep.proofs.Deriving.{is-false, open-within, open-zero}
 use Rattle.layers.specs.Weights.{pathWeight, weightSum}
@@ -365,9 +365,9 @@ module _ {t : Table} {s order : List ℕ} {l : Layers} {losses : List ℕ} (laye
       let same = drop-taken p s (choiceCount (take (place t n) (t .variables))) (settles .size) (λ i b. settles .later i (omega (arith, line .stand .number))) in
       rw same refl
 
-  -- the loss at a record of the line is its shortfall
-  own-loss : (j : ℕ) → own ≤ j → j < to → (k : ℕ) → node order j ≡ k + 2 → getD losses j 0 ≡ shortfall t p d k
-  unfolding shortfall isOf place
+  -- the loss at a record of the line is what its value loses
+  own-loss : (j : ℕ) → own ≤ j → j < to → (k : ℕ) → node order j ≡ k + 2 → getD losses j 0 ≡ valueLoss t p d k
+  unfolding valueLoss isOf place
   own-loss j a b k e =
       let at = own-position j a b k e in
       let is : isOf t d k ≡ true = and-true-both _ _ (own-choice j a b k e) (eq-eqb _ _ (own-number j a b k e)) in
@@ -377,7 +377,7 @@ module _ {t : Table} {s order : List ℕ} {l : Layers} {losses : List ℕ} (laye
 
   -- what is lost at node m
   abbrev lostAt : (m : ℕ) → ℕ
-  lostAt m = pathWeight t (openTaken p) m * shortfall t p d (m - 2)
+  lostAt m = pathWeight t (openTaken p) m * valueLoss t p d (m - 2)
 
   dropped : (n : ℕ) → own + n ≤ to → dropSum l losses own n base ≡ rankSum (λ j. lostAt (node order j)) own n
   unfolding dropSum rankSum
@@ -403,22 +403,22 @@ module _ {t : Table} {s order : List ℕ} {l : Layers} {losses : List ℕ} (laye
       (λ h. absurd (omega (arith, number, line .stand .number, choices-later (t .variables) y x h (c .0))))
       (λ g. omega (arith, f, g)))
 
-  -- other records have no shortfall
-  off-line : (k : ℕ) → eqb (recordAt (t .records) k .position) (line .position) ≡ false → shortfall t p d k ≡ 0
-  unfolding shortfall
+  -- other records' values lose nothing
+  off-line : (k : ℕ) → eqb (recordAt (t .records) k .position) (line .position) ≡ false → valueLoss t p d k ≡ 0
+  unfolding valueLoss
   off-line k e =
       let no : isOf t d k ≡ false = is-false _ (λ q. false≢true (sym e ∙ eq-eqb _ _ (of-line k q))) in
       rw no refl
 
   -- the sum at the line's position is one over all records
-  at-line : (n : ℕ) → atSum t lostAt (line .position) n ≡ weightSum (pathWeight t (openTaken p)) (shortfall t p d) n
+  at-line : (n : ℕ) → atSum t lostAt (line .position) n ≡ weightSum (pathWeight t (openTaken p)) (valueLoss t p d) n
   unfolding atSum weightSum
   at-line zero = refl
   at-line (suc k) =
       let number : k + 2 - 2 ≡ k = omega arith in
-      rw (at-line k, number) (ap (λ (z : ℕ). weightSum (pathWeight t (openTaken p)) (shortfall t p d) k + z) (go (eqb (recordAt (t .records) k .position) (line .position)) refl))
+      rw (at-line k, number) (ap (λ (z : ℕ). weightSum (pathWeight t (openTaken p)) (valueLoss t p d) k + z) (go (eqb (recordAt (t .records) k .position) (line .position)) refl))
     where
-      go : (b : Bool) → eqb (recordAt (t .records) k .position) (line .position) ≡ b → cond b (pathWeight t (openTaken p) (k + 2) * shortfall t p d k) 0 ≡ pathWeight t (openTaken p) (k + 2) * shortfall t p d k
+      go : (b : Bool) → eqb (recordAt (t .records) k .position) (line .position) ≡ b → cond b (pathWeight t (openTaken p) (k + 2) * valueLoss t p d k) 0 ≡ pathWeight t (openTaken p) (k + 2) * valueLoss t p d k
       go true e = refl
       go false e = rw (off-line k e) (omega arith)
 

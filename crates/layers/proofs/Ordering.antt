@@ -12,15 +12,15 @@ use Rattle.diagram.specs.Table.{Table, Record, sequence, recordAt}
 use Rattle.diagram.specs.Checks.{positionOf}
 use Rattle.diagram.proofs.Truth.{Formed}
 use Rattle.diagram.proofs.Locality.{position-less}
-use Rattle.implication.specs.Nodes.{column}
-use Rattle.implication.proofs.Pairing.{column-at}
+use Rattle.decoding.specs.Nodes.{column}
+use Rattle.decoding.proofs.Columns.{column-at}
 use Rattle.scoring.specs.Value.{place}
 use Rattle.scoring.specs.Passes.{over}
 use Rattle.scoring.proofs.Over.{over-sequence-at}
 use Rattle.scoring.specs.declared.roots.Roots.{Roots}
 use Rattle.layers.specs.Chains.{pick, joined, placed, arcsInto, arcsInOrder}
 use Rattle.layers.specs.Flows.{rankSum, atSum}
-use Rattle.layers.proofs.Joining.{placed-at, listSum, rank-list, joined-suc, joined-mono, joined-at, joined-append, Stands, joined-find, pick-sum, pick-at, pick-find, pick-distinct, hits, hits-most, hits-once, picked-all, sum-ones, sum-most, paired-most}
+use Rattle.layers.proofs.Joining.{placed-at, listSum, rank-list, joined-suc, joined-mono, joined-at, joined-append, Located, joined-find, pick-sum, pick-at, pick-find, pick-distinct, hits, hits-most, hits-once, picked-all, sum-ones, sum-most, paired-most}
 
 -- The nodes at each position, the highest number first
 abbrev pub nodesAt : (positions : List ℕ) → (n : ℕ) → ℕ → List ℕ
@@ -100,17 +100,17 @@ module _ (t : Table) (formed : Formed (length (t .variables)) (t .records)) (few
 
   -- what stands at rank i
   record Rank (i : ℕ) : Type 0 where
-    pub stands : Stands lists count i
-    pub ranked : Ranked (stands .x) (stands .at)
+    pub located : Located lists count i
+    pub ranked : Ranked (located .x) (located .at)
     pub node : getD order i 0 ≡ ranked .k + 2
-    pub position : place t (getD order i 0) ≡ stands .x
+    pub position : place t (getD order i 0) ≡ located .x
 
   rank : (i : ℕ) → i < N → Rank i
   rank i h =
       let s = joined-find lists count i (omega (arith, all-nodes)) in
       let r = ranked (s .x) (s .at) (s .below) (s .within) in
       record {
-        stands = s;
+        located = s;
         ranked = r;
         node = ap (λ (z : ℕ). getD order z 0) (s .is) ∙ r .node;
         position = ap (λ (z : ℕ). place t (getD order z 0)) (s .is) ∙ ranked-place (s .x) (s .at) (s .below) (s .within);
@@ -132,8 +132,8 @@ module _ (t : Table) (formed : Formed (length (t .variables)) (t .records)) (few
   order-distinct i j hi hj e =
       let a = rank i hi in
       let b = rank j hj in
-      let sa = a .stands in
-      let sb = b .stands in
+      let sa = a .located in
+      let sb = b .located in
       let x : sa .x ≡ sb .x = sym (a .position) ∙ ap (place t) e ∙ b .position in
       let q = sym (ap (λ (z : ℕ). getD order z 0) (sa .is)) ∙ e ∙ ap (λ (z : ℕ). getD order z 0) (sb .is) in
       sa .is ∙ same-rank (sa .x) (sb .x) (sa .at) (sb .at) x (sa .below) (sa .within) (sb .within) q ∙ sym (sb .is)
@@ -142,7 +142,7 @@ module _ (t : Table) (formed : Formed (length (t .variables)) (t .records)) (few
   pub order-earlier : (i k : ℕ) → i < length (t .records) → k < length (t .records) → recordAt (t .records) k .position < place t (getD order i 0) → ((j : ℕ) × (j < i) × (getD order j 0 ≡ k + 2))
   order-earlier i k hi hk less =
       let r = rank i hi in
-      let s = r .stands in
+      let s = r .located in
       let x = getD ps (k + 2) 0 in
       let f = pick-find ps 0 x N k hk refl in
       let low : x < s .x = omega (arith, position-is k hk, r .position) in

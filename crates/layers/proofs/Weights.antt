@@ -21,12 +21,13 @@ use Rattle.diagram.proofs.Truth.{Formed}
 use Rattle.diagram.proofs.Places.{sequence-at}
 use Rattle.diagram.proofs.FirstVariable.{Shares, scale-positive}
 use Rattle.diagram.proofs.Rising.{Monotone}
-use Rattle.reading.specs.Roots.{rootAt}
+use Rattle.decoding.specs.Decoding.{rootAt}
 use Rattle.scoring.specs.Value.{place, value, rootedSum, highWeight, lowWeight}
 use Rattle.scoring.specs.Passes.{byNode, Arcs}
 use Rattle.scoring.proofs.Values.{shares-drop, weights-scale, value-false, value-true, value-step, score-rooted, scale-rooted}
-use Rattle.sweep.specs.Down.{dot, recordSum, added, rootWeights, rootWeight, Rooted, handOn, passDown, Budget}
-use Rattle.sweep.specs.Drops.{shortfall}
+use Rattle.sweep.specs.Down.{dot, recordSum, added, rootWeights, rootWeight, handOn, passDown, Budget}
+use Rattle.decoding.specs.Decoding.{Rooted}
+use Rattle.sweep.specs.Drops.{valueLoss}
 use Rattle.sweep.proofs.Transposing.{added-length, hand-on-length, hand-on-other, stays, transposed, budget-next, budget-weight}
 use Rattle.sweep.proofs.Leaving.{left-step}
 use Rattle.sweep.proofs.RootWeights.{root-weights-length, all-dot, added-cell, root-weights-cell}
@@ -237,11 +238,11 @@ module _ (t : Table) (formed : Formed (length (t .variables)) (t .records)) (sha
   top-is u = omega (arith, summed u u (λ _. 0) (λ k. rw add-zero (value-step t formed shares u k)), sum-zero (pathWeight t u) (length (t .records)))
 
   -- the score with an open line left, and the sum, come to the top
-  left-top : Monotone t → (p : List ℕ) (i : ℕ) → isOpen p i ≡ true → score t (openTaken (set p i 2)) + weightSum (pathWeight t (openTaken p)) (shortfall t p i) (length (t .records)) ≡ score t (openTaken p)
-  left-top monotone p i o = summed (openTaken p) (openTaken (set p i 2)) (shortfall t p i) (left-step t formed monotone shares p i o) ∙ sym (top-is (openTaken p))
+  left-top : Monotone t → (p : List ℕ) (i : ℕ) → isOpen p i ≡ true → score t (openTaken (set p i 2)) + weightSum (pathWeight t (openTaken p)) (valueLoss t p i) (length (t .records)) ≡ score t (openTaken p)
+  left-top monotone p i o = summed (openTaken p) (openTaken (set p i 2)) (valueLoss t p i) (left-step t formed monotone shares p i o) ∙ sym (top-is (openTaken p))
 
   -- the drop of an open line, from the weights of its records
-  pub drop-weights : Monotone t → (p : List ℕ) (i : ℕ) → isOpen p i ≡ true → derivative t p i ≡ weightSum (pathWeight t (openTaken p)) (shortfall t p i) (length (t .records))
+  pub drop-weights : Monotone t → (p : List ℕ) (i : ℕ) → isOpen p i ≡ true → derivative t p i ≡ weightSum (pathWeight t (openTaken p)) (valueLoss t p i) (length (t .records))
   unfolding derivative upperBound
   drop-weights monotone p i o = rw o (omega (arith, left-top monotone p i o))
 

@@ -13,8 +13,10 @@ use Rattle.diagram.proofs.FirstVariable.{Shares}
 use Rattle.diagram.proofs.Rising.{Monotone}
 use Rattle.scoring.specs.Value.{place, value, variableAt, highWeight, lowWeight, highArc, lowArc}
 use Rattle.scoring.specs.Passes.{markOf, highInForce}
-use Rattle.sweep.specs.Down.{rootWeight, Rooted}
+use Rattle.sweep.specs.Down.{rootWeight}
+use Rattle.decoding.specs.Decoding.{Rooted}
 use Rattle.layers.specs.Weights.{pathWeight, into}
+use Rattle.layers.specs.Cells.{highCell, lowCell, rootCell}
 use Rattle.layers.specs.Layers.{Layers, Sized, inflow}
 
 -- ---------------------------------------------------------------------------
@@ -55,7 +57,7 @@ pub record Layered (t : Table) (s order : List ℕ) (l : Layers) (losses : List 
   pub legal : (i : ℕ) → getD s i 0 ≤ 2
   pub sized : Sized l (length (t .records))
   pub nodes : (i : ℕ) → i < length (t .records) → ((k : ℕ) × (k < length (t .records)) × (getD order i 0 ≡ k + 2))
-  pub inflows : (cells : List ℕ) → getD cells 1 0 ≡ 1 → (high low : ℕ → ℕ) (i : ℕ) → i < length (t .records) → ((j k : ℕ) → j < i → getD order j 0 ≡ k + 2 → (getD cells (j + 2) 0 * highAt t s k ≡ high k) × (getD cells (j + 258) 0 * lowAt t s k ≡ low k)) → inflow l cells i ≡ rootWeight t (getD order i 0) (length (t .roots)) + into (λ k. recordAt (t .records) k .hi) (λ k. recordAt (t .records) k .lo) high low (getD order i 0) (length (t .records))
+  pub inflows : (cells : List ℕ) → getD cells rootCell 0 ≡ 1 → (high low : ℕ → ℕ) (i : ℕ) → i < length (t .records) → ((j k : ℕ) → j < i → getD order j 0 ≡ k + 2 → (getD cells (highCell j) 0 * highAt t s k ≡ high k) × (getD cells (lowCell j) 0 * lowAt t s k ≡ low k)) → inflow l cells i ≡ rootWeight t (getD order i 0) (length (t .roots)) + into (λ k. recordAt (t .records) k .hi) (λ k. recordAt (t .records) k .lo) high low (getD order i 0) (length (t .records))
   pub lost : (i k : ℕ) → i < length (t .records) → getD order i 0 ≡ k + 2 → isChoice (variableAt t k) ≡ true → isOpen s (choiceCount (take (recordAt (t .records) k .position) (t .variables))) ≡ true → getD losses i 0 ≡ value t (openTaken s) (k + 2) - lowArc t k * value t (openTaken s) (recordAt (t .records) k .lo)
 
 -- The sum of f over n ranks from i on
@@ -90,11 +92,11 @@ pub record Settles (s p : List ℕ) : Type 0 where
 
 -- The cells of the first i nodes hand on their path weights under the full plan u, along the arcs that are in force
 pub record Right (t : Table) (s u order : List ℕ) (i : ℕ) (cells : List ℕ) : Type 0 where
-  pub high : (j k : ℕ) → j < i → getD order j 0 ≡ k + 2 → getD cells (j + 2) 0 * highAt t s k ≡ pathWeight t u (k + 2) * highWeight t u k
-  pub low : (j k : ℕ) → j < i → getD order j 0 ≡ k + 2 → getD cells (j + 258) 0 * lowAt t s k ≡ pathWeight t u (k + 2) * lowWeight t u k
+  pub high : (j k : ℕ) → j < i → getD order j 0 ≡ k + 2 → getD cells (highCell j) 0 * highAt t s k ≡ pathWeight t u (k + 2) * highWeight t u k
+  pub low : (j k : ℕ) → j < i → getD order j 0 ≡ k + 2 → getD cells (lowCell j) 0 * lowAt t s k ≡ pathWeight t u (k + 2) * lowWeight t u k
 
 -- The cells of the first i nodes, and that of the roots' arcs, are the same
 pub record Same (i : ℕ) (cells cells′ : List ℕ) : Type 0 where
-  pub high : (j : ℕ) → j < i → getD cells′ (j + 2) 0 ≡ getD cells (j + 2) 0
-  pub low : (j : ℕ) → j < i → getD cells′ (j + 258) 0 ≡ getD cells (j + 258) 0
-  pub root : getD cells′ 1 0 ≡ getD cells 1 0
+  pub high : (j : ℕ) → j < i → getD cells′ (highCell j) 0 ≡ getD cells (highCell j) 0
+  pub low : (j : ℕ) → j < i → getD cells′ (lowCell j) 0 ≡ getD cells (lowCell j) 0
+  pub root : getD cells′ rootCell 0 ≡ getD cells rootCell 0

@@ -1,10 +1,10 @@
--- A table laid out for a search, and what a visit does with it. The nodes stand in order of position; a node's place in this order is its rank. The node
--- at rank i has two cells: cell i + 2 has what its hi arc hands on, cell i + 258 what its lo arc hands on, both before the arc's own weight. Cell 1 has
--- 1, and the roots' arcs start from it.
+-- A table laid out for a search, and what a visit does with it. The nodes stand in order of position; a node's place in this order is its rank.
 use Prim.Native.Nat.{ℕ, zero, suc, _+_, _-_, _*_, _≤_, _<_, _^_}
 use mathlib.Core.Path.{_≡_}
 use mathlib.Core.List.{List}
 use lib.ListN.{length, getD, set}
+use Rattle.layers.specs.Cells.{highCell, lowCell}
+use Rattle.layers.specs.Lines.{firstRank, ownRank, nextRank}
 
 -- By rank: where the arcs into the node begin in the list of all arcs, one node after the other in order. By place in this list: the cell that the arc
 -- starts from, and its weight.
@@ -28,6 +28,14 @@ unfoldable pub flowSum : (sources arcs cells : List ℕ) → (j n : ℕ) → ℕ
 flowSum ss ws cells j zero = 0
 flowSum ss ws cells j (suc n) = flowSum ss ws cells j n + getD cells (getD ss (j + n) 0) 0 * getD ws (j + n) 0
 
+-- The arcs from one place of their list to another are pairs, one or more, within their arrays, and what they bring fits
+abbrev pub FlowFits : (sources arcs cells : List ℕ) → (from to : ℕ) → Type 0
+FlowFits ss ws cells from to =
+    ((m : ℕ) × (to ≡ from + suc m + suc m))
+    × (to ≤ 1040)
+    × ((j : ℕ) → getD ss j 0 < 512)
+    × (flowSum ss ws cells from (to - from) ≤ 2 ^ 56)
+
 -- What all arcs into the node at rank i bring
 unfoldable pub inflow : Layers → (cells : List ℕ) → (i : ℕ) → ℕ
 inflow l cells i =
@@ -35,7 +43,7 @@ inflow l cells i =
 
 -- The two cells of the node at rank i written
 abbrev pub put : (cells : List ℕ) → (i x y : ℕ) → List ℕ
-put cells i x y = set (set cells (i + 2) x) (i + 258) y
+put cells i x y = set (set cells (highCell i) x) (lowCell i) y
 
 -- The node at rank i hands on what comes to it, by both arcs
 unfoldable pub passNode : Layers → (i : ℕ) → (cells : List ℕ) → List ℕ
@@ -62,34 +70,49 @@ PassFits l from to cells = (i : ℕ) → from + i < to → inflow l (passNodes l
 abbrev pub OwnFits : Layers → (from to : ℕ) → (cells : List ℕ) → Type 0
 OwnFits l from to cells = (i : ℕ) → from + i < to → inflow l (ownNodes l from i cells) (from + i) ≤ 2 ^ 56
 
+-- The nodes from one rank to another may be passed
+abbrev pub Passable : Layers → (from to : ℕ) → (cells : List ℕ) → Type 0
+Passable l from to cells =
+    (from ≤ to) × (length cells ≡ 512) × ((n : ℕ) × Sized l n × (to ≤ n) × PassFits l from to cells)
+
 -- What leaving the line of n nodes from rank i on loses: at each node what comes to it, times its loss
 unfoldable pub dropSum : Layers → (losses : List ℕ) → (i n : ℕ) → (cells : List ℕ) → ℕ
 dropSum l losses i zero cells = 0
 dropSum l losses i (suc n) cells =
     dropSum l losses i n cells + inflow l (ownNodes l i n cells) (i + n) * getD losses (i + n) 0
 
+-- The nodes of an open line, from one rank to another, may be entered
+abbrev pub OwnEnterable : Layers → (losses : List ℕ) → (from to : ℕ) → (cells : List ℕ) → Type 0
+OwnEnterable l losses from to cells =
+    (from ≤ to)
+    × (length cells ≡ 512)
+    × ((n : ℕ) × Sized l n × (to ≤ n) × OwnFits l from to cells × (dropSum l losses from (to - from) cells ≤ 2 ^ 56))
+
 -- The line of the node at rank i is left: what its hi arc has handed on goes by its lo arc
 unfoldable pub leaveNode : (i : ℕ) → (cells : List ℕ) → List ℕ
-leaveNode i cells = put cells i 0 (getD cells (i + 2) 0)
+leaveNode i cells = put cells i 0 (getD cells (highCell i) 0)
 
 unfoldable pub leaveNodes : (i n : ℕ) → (cells : List ℕ) → List ℕ
 leaveNodes i zero cells = cells
 leaveNodes i (suc n) cells = leaveNode (i + n) (leaveNodes i n cells)
 
--- The cells after the layer of the lowest of so many unsettled lines, up to the line's own nodes. The array of lines has the layer's ranks: at that place
--- where it begins, 21 places on where the line's own nodes do, one place before where they end.
+-- The cells after the layer of the lowest of so many unsettled lines, up to the line's own nodes
 abbrev pub layerPassed : Layers → (lines : List ℕ) → (unsettled : ℕ) → (cells : List ℕ) → List ℕ
-layerPassed l lines unsettled cells = passNodes l (getD lines unsettled 0) (getD lines (unsettled + 21) 0 - getD lines unsettled 0) cells
+layerPassed l lines n cells = passNodes l (firstRank lines n) (ownRank lines n - firstRank lines n) cells
 
 -- The cells after the whole layer, with the line taken
 abbrev pub layerEntered : Layers → (lines : List ℕ) → (unsettled : ℕ) → (cells : List ℕ) → List ℕ
-layerEntered l lines unsettled cells =
-    ownNodes l (getD lines (unsettled + 21) 0) (getD lines (unsettled - 1) 0 - getD lines (unsettled + 21) 0) (layerPassed l lines unsettled cells)
+layerEntered l lines n cells =
+    ownNodes l (ownRank lines n) (nextRank lines n - ownRank lines n) (layerPassed l lines n cells)
 
 -- What leaving the line loses
 abbrev pub layerDrop : Layers → (losses lines : List ℕ) → (unsettled : ℕ) → (cells : List ℕ) → ℕ
-layerDrop l losses lines unsettled cells =
-    dropSum l losses (getD lines (unsettled + 21) 0) (getD lines (unsettled - 1) 0 - getD lines (unsettled + 21) 0) (layerPassed l lines unsettled cells)
+layerDrop l losses lines n cells =
+    dropSum l losses (ownRank lines n) (nextRank lines n - ownRank lines n) (layerPassed l lines n cells)
+
+-- The cells once the line is left
+abbrev pub lineLeft : (lines : List ℕ) → (unsettled : ℕ) → (cells : List ℕ) → List ℕ
+lineLeft lines n cells = leaveNodes (ownRank lines n) (nextRank lines n - ownRank lines n) cells
 
 -- The layer of an open line: the ranks from the line before it to its own first record, and from there to the one after its last. All sums fit.
 pub record Enterable (l : Layers) (losses : List ℕ) (n from own to : ℕ) (cells : List ℕ) : Type 0 where
@@ -99,3 +122,13 @@ pub record Enterable (l : Layers) (losses : List ℕ) (n from own to : ℕ) (cel
   pub passes : PassFits l from own cells
   pub enters : OwnFits l own to (passNodes l from (own - from) cells)
   pub drops : dropSum l losses own (to - own) (passNodes l from (own - from) cells) ≤ 2 ^ 56
+
+-- The layer of the lowest of so many unsettled lines, at most 20, may be entered
+abbrev pub LayerEnterable : Layers → (losses lines : List ℕ) → (unsettled : ℕ) → (cells : List ℕ) → Type 0
+LayerEnterable l losses lines n cells =
+    (1 ≤ n) × (n ≤ 20) × ((k : ℕ) × Enterable l losses k (firstRank lines n) (ownRank lines n) (nextRank lines n) cells)
+
+-- The line may be left
+abbrev pub LineLeavable : (lines : List ℕ) → (unsettled : ℕ) → (cells : List ℕ) → Type 0
+LineLeavable lines n cells =
+    (1 ≤ n) × (n ≤ 20) × (length cells ≡ 512) × (ownRank lines n ≤ nextRank lines n) × (nextRank lines n ≤ 254)

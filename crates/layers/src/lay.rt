@@ -11,7 +11,7 @@ ghost use Prim.Native.Nat.{ℕ, _≤_, _<_};
 ghost use lib.ListN.{length, getD, replicate};
 ghost use Rattle.layers.specs.Chains.{arcsInOrder};
 ghost use Rattle.layers.specs.Layers.{layersOf};
-ghost use Rattle.layers.specs.Weighed.{Laid};
+ghost use Rattle.layers.specs.Weighed.{NodesWithin, NodesOnce, Laid};
 
 // Lays out the arcs into the first n nodes of the order: where each node's begin, and for each arc the cell that it starts from
 // and its weight. The search hands in zeros, and an accepted table's records, as `order_records` puts them in order.
@@ -29,7 +29,7 @@ pub fn lay_arcs(
     sources: &mut [u16; 1040],
     arcs: &mut [u64; 1040],
 )
-    requires nodes { ⌜ (n ≤ 254) × (roots .count ≤ 16) × ((i : ℕ) → i < n → (2 ≤ getD (now order) i 0) × (getD (now order) i 0 < 256)) × ((i j : ℕ) → i < n → j < n → getD (now order) i 0 ≡ getD (now order) j 0 → i ≡ j) ⌝ }
+    requires nodes { ⌜ (n ≤ 254) × (roots .count ≤ 16) × NodesWithin n (now order) × NodesOnce n (now order) ⌝ }
     requires fits { ⌜ ((k : ℕ) → getD (now positions) k 0 < 64) × (length (arcsInOrder (now high) (now low) roots (now order) n n) ≤ 1040) ⌝ }
     requires zeros { ⌜ (now starts ≡ replicate 256 0) × (now sources ≡ replicate 1040 0) × (now arcs ≡ replicate 1040 0) ⌝ }
     ensures { λ _. ⌜ Laid n roots (now (positions .entry)) (now (high .entry)) (now (low .entry)) (now («high_arcs» .entry)) (now («low_arcs» .entry)) (now (marks .entry)) (now (order .entry)) (layersOf (now (starts .exit)) (now (sources .exit)) (now (arcs .exit))) ⌝ }

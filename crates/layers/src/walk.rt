@@ -1,8 +1,11 @@
 // The walk of a visit over one layer: from the line before to an open line, and over that line's own nodes.
+use crate::cells::HIGH_CELLS;
+use crate::cells::LOW_CELLS;
+use crate::lines::OWN;
 ghost use mathlib.Core.Path.{_≡_};
-ghost use Prim.Native.Nat.{ℕ, suc, _+_, _-_, _≤_, _<_, _^_};
+ghost use Prim.Native.Nat.{ℕ, _+_, _-_, _≤_, _<_, _^_};
 ghost use lib.ListN.{length, getD};
-ghost use Rattle.layers.specs.Layers.{layersOf, Sized, flowSum, put, passNodes, PassFits, ownNodes, OwnFits, dropSum, leaveNodes, layerEntered, layerDrop, Enterable};
+ghost use Rattle.layers.specs.Layers.{layersOf, flowSum, FlowFits, put, passNodes, Passable, ownNodes, dropSum, OwnEnterable, layerEntered, layerDrop, lineLeft, LayerEnterable, LineLeavable};
 
 // Enters the layer of the lowest of `unsettled` open lines, whose ranks `lines` has: the nodes before the line hand their weights on
 // by both arcs, the line's own by their hi arcs, as if it were taken. Answers what leaving the line loses. The arrays
@@ -16,15 +19,15 @@ pub fn enter_layer(
     cells: &mut [u64; 512],
     unsettled: usize,
 ) -> u64
-    requires { ⌜ (1 ≤ unsettled) × (unsettled ≤ 20) × ((n : ℕ) × Enterable (layersOf (now starts) (now sources) (now arcs)) (now losses) n (getD (now lines) unsettled 0) (getD (now lines) (unsettled + 21) 0) (getD (now lines) (unsettled - 1) 0) (now cells)) ⌝ }
+    requires { ⌜ LayerEnterable (layersOf (now starts) (now sources) (now arcs)) (now losses) (now lines) unsettled (now cells) ⌝ }
     ensures drop { λ r. ⌜ r ≡ layerDrop (layersOf (now (starts .entry)) (now (sources .entry)) (now (arcs .entry))) (now (losses .entry)) (now (lines .entry)) unsettled (now (cells .entry)) ⌝ }
     ensures cells { λ _. ⌜ now (cells .exit) ≡ layerEntered (layersOf (now (starts .entry)) (now (sources .entry)) (now (arcs .entry))) (now (lines .entry)) unsettled (now (cells .entry)) ⌝ }
 {
-    let from = lines[unsettled] as usize;
-    let own = lines[unsettled + 21] as usize;
-    let to = lines[unsettled - 1] as usize;
-    pass(starts, sources, arcs, cells, from, own);
-    enter(starts, sources, arcs, losses, cells, own, to)
+    let first = lines[unsettled] as usize;
+    let own = lines[unsettled + OWN] as usize;
+    let next = lines[unsettled - 1] as usize;
+    pass(starts, sources, arcs, cells, first, own);
+    enter(starts, sources, arcs, losses, cells, own, next)
 }
 
 // The nodes from one rank to another hand on what comes to them.
@@ -36,7 +39,7 @@ fn pass(
     from: usize,
     to: usize,
 )
-    requires { ⌜ (from ≤ to) × (length (now cells) ≡ 512) × ((n : ℕ) × Sized (layersOf (now starts) (now sources) (now arcs)) n × (to ≤ n) × PassFits (layersOf (now starts) (now sources) (now arcs)) from to (now cells)) ⌝ }
+    requires { ⌜ Passable (layersOf (now starts) (now sources) (now arcs)) from to (now cells) ⌝ }
     ensures { λ _. ⌜ now (cells .exit) ≡ passNodes (layersOf (now (starts .entry)) (now (sources .entry)) (now (arcs .entry))) from (to - from) (now (cells .entry)) ⌝ }
 {
     let mut at = start_of(starts, from);
@@ -60,7 +63,7 @@ fn enter(
     from: usize,
     to: usize,
 ) -> u64
-    requires { ⌜ (from ≤ to) × (length (now cells) ≡ 512) × ((n : ℕ) × Sized (layersOf (now starts) (now sources) (now arcs)) n × (to ≤ n) × OwnFits (layersOf (now starts) (now sources) (now arcs)) from to (now cells) × (dropSum (layersOf (now starts) (now sources) (now arcs)) (now losses) from (to - from) (now cells) ≤ 2 ^ 56)) ⌝ }
+    requires { ⌜ OwnEnterable (layersOf (now starts) (now sources) (now arcs)) (now losses) from to (now cells) ⌝ }
     ensures drop { λ r. ⌜ r ≡ dropSum (layersOf (now (starts .entry)) (now (sources .entry)) (now (arcs .entry))) (now (losses .entry)) from (to - from) (now (cells .entry)) ⌝ }
     ensures cells { λ _. ⌜ now (cells .exit) ≡ ownNodes (layersOf (now (starts .entry)) (now (sources .entry)) (now (arcs .entry))) from (to - from) (now (cells .entry)) ⌝ }
 {
@@ -80,14 +83,14 @@ fn enter(
 
 // Leaves the lowest of `unsettled` open lines: what its nodes have handed on by their hi arcs goes by their lo arcs.
 // `visit` hands in the ranks of a layout.
-pub fn leave_layer(lines: &[u16; 84], cells: &mut [u64; 512], unsettled: usize)
-    requires { ⌜ (1 ≤ unsettled) × (unsettled ≤ 20) × (length (now cells) ≡ 512) × (getD (now lines) (unsettled + 21) 0 ≤ getD (now lines) (unsettled - 1) 0) × (getD (now lines) (unsettled - 1) 0 ≤ 254) ⌝ }
-    ensures { λ _. ⌜ now (cells .exit) ≡ leaveNodes (getD (now (lines .entry)) (unsettled + 21) 0) (getD (now (lines .entry)) (unsettled - 1) 0 - getD (now (lines .entry)) (unsettled + 21) 0) (now (cells .entry)) ⌝ }
+pub fn leave_line(lines: &[u16; 84], cells: &mut [u64; 512], unsettled: usize)
+    requires { ⌜ LineLeavable (now lines) unsettled (now cells) ⌝ }
+    ensures { λ _. ⌜ now (cells .exit) ≡ lineLeft (now (lines .entry)) unsettled (now (cells .entry)) ⌝ }
 {
-    let to = index(lines[unsettled - 1]);
-    let mut i = index(lines[unsettled + 21]);
-    while i < to {
-        let w = cells[i + 2];
+    let next = index(lines[unsettled - 1]);
+    let mut i = index(lines[unsettled + OWN]);
+    while i < next {
+        let w = cells[i + HIGH_CELLS];
         put_both(cells, i, 0, w);
         i += 1;
     }
@@ -113,8 +116,8 @@ fn put_both(cells: &mut [u64; 512], i: usize, high: u64, low: u64)
     requires { ⌜ (i < 254) × (length (now cells) ≡ 512) ⌝ }
     ensures { λ _. ⌜ now (cells .exit) ≡ put (now (cells .entry)) i high low ⌝ }
 {
-    cells[i + 2] = high;
-    cells[i + 258] = low;
+    cells[i + HIGH_CELLS] = high;
+    cells[i + LOW_CELLS] = low;
 }
 
 // What the arcs from one place of their list to another bring, which are one pair or more.
@@ -125,7 +128,7 @@ fn flow(
     from: usize,
     to: usize,
 ) -> u64
-    requires { ⌜ ((m : ℕ) × (to ≡ from + suc m + suc m)) × (to ≤ 1040) × ((j : ℕ) → getD (now sources) j 0 < 512) × (flowSum (now sources) (now arcs) (now cells) from (to - from) ≤ 2 ^ 56) ⌝ }
+    requires { ⌜ FlowFits (now sources) (now arcs) (now cells) from to ⌝ }
     ensures { λ r. ⌜ r ≡ flowSum (now (sources .entry)) (now (arcs .entry)) (now (cells .entry)) from (to - from) ⌝ }
 {
     let mut w = pair(sources, arcs, cells, from);

@@ -1,19 +1,26 @@
 // The weights of the arcs during a search, the cells that they start from, and what leaving a line loses at each of its nodes.
+use crate::cells::HIGH_ARCS;
+use crate::cells::HIGH_CELLS;
+use crate::cells::LOW_ARCS;
+use crate::cells::LOW_CELLS;
+use crate::cells::LOW_OFFSET;
+use crate::cells::ROOT_ARCS;
+use decoding::child_of;
+use decoding::position_of;
 use diagram::Node;
 use diagram::Plan;
-use reading::child_of;
-use reading::position_of;
 use scoring::Roots;
 use scoring::high_weight;
 use scoring::mark_at;
 use scoring::value_of;
 ghost use mathlib.Core.Path.{_≡_};
-ghost use Prim.Native.Nat.{ℕ, _+_, _*_, _≤_, _<_, _^_};
+ghost use Prim.Native.Nat.{ℕ, _≤_, _<_};
 ghost use lib.ListN.{length, getD, set, replicate};
 ghost use Rattle.diagram.specs.Table.{sequence};
-ghost use Rattle.scoring.specs.Passes.{over, highInForce, markAtNode};
+ghost use Rattle.scoring.specs.Passes.{over};
+ghost use Rattle.layers.specs.Cells.{highCell, lowCell, lowArcOf};
 ghost use Rattle.layers.specs.Flows.{lowKept};
-ghost use Rattle.layers.specs.Weighed.{Brought, Weighted, Numbered, lossOf};
+ghost use Rattle.layers.specs.Weighed.{highKeptAt, lowKeptAt, Brought, Weighted, NodesWithin, NodesOnce, Numbered, lossOf, LossFits, lossesByRank};
 
 // The weights of the arcs of the first n records, by the arcs' numbers: 0 where the plan that the search starts from closes
 // the arc, and 0 for the number 0, which no arc has. The positions are a table's, and so below 64: the search hands in an accepted
@@ -27,14 +34,14 @@ pub fn weigh_arcs(
     weights: &mut [u64; 544],
 )
     requires { ⌜ (n ≤ 254) × ((k : ℕ) → getD (now positions) k 0 < 64) × (length (now weights) ≡ 544) ⌝ }
-    ensures { λ _. ⌜ Weighted n (λ (k : ℕ). highInForce (markAtNode (now (positions .entry)) (now (marks .entry)) k) (getD (now («high_arcs» .entry)) (k + 2) 0)) (λ (k : ℕ). lowKept (markAtNode (now (positions .entry)) (now (marks .entry)) k) (getD (now («low_arcs» .entry)) (k + 2) 0)) (now (weights .exit)) ⌝ }
+    ensures { λ _. ⌜ Weighted n (highKeptAt (now (positions .entry)) (now (marks .entry)) (now («high_arcs» .entry))) (lowKeptAt (now (positions .entry)) (now (marks .entry)) (now («low_arcs» .entry))) (now (weights .exit)) ⌝ }
 {
     weights[0] = 0;
     let mut k = 0;
     while k < n {
         let mark = mark_of(positions, marks, Node::of_record(k));
-        weights[k + 2] = high_weight(mark, high_arcs[k + 2]);
-        weights[k + 258] = low_kept(mark, low_arcs[k + 2]);
+        weights[k + HIGH_ARCS] = high_weight(mark, high_arcs[k + 2]);
+        weights[k + LOW_ARCS] = low_kept(mark, low_arcs[k + 2]);
         k += 1;
     }
 }
@@ -46,7 +53,7 @@ pub fn weigh_roots(roots: Roots, weights: &mut [u64; 544])
 {
     let mut i = 0;
     while i < roots.count {
-        weights[i + 514] = roots.weights[i + 2];
+        weights[i + ROOT_ARCS] = roots.weights[i + 2];
         i += 1;
     }
 }
@@ -69,7 +76,7 @@ fn low_kept(mark: u8, arc: u64) -> u64
 // The cells of the arcs of the first n nodes of the order, by the arcs' numbers: `lay_arcs` hands in ones, the cell of
 // the roots' arcs, and an order in which no node stands twice, as `order_records` leaves it.
 pub fn number_cells(n: usize, order: &[u16; 1040], numbers: &mut [u16; 544])
-    requires nodes { ⌜ (n ≤ 254) × ((i : ℕ) → i < n → (2 ≤ getD (now order) i 0) × (getD (now order) i 0 < 256)) × ((i j : ℕ) → i < n → j < n → getD (now order) i 0 ≡ getD (now order) j 0 → i ≡ j) ⌝ }
+    requires nodes { ⌜ (n ≤ 254) × NodesWithin n (now order) × NodesOnce n (now order) ⌝ }
     requires ones { ⌜ now numbers ≡ replicate 544 1 ⌝ }
     ensures { λ _. ⌜ Numbered n (now (order .entry)) (now (numbers .exit)) ⌝ }
 {
@@ -84,11 +91,11 @@ pub fn number_cells(n: usize, order: &[u16; 1040], numbers: &mut [u16; 544])
 // Writes the cells of the arcs of the node at a rank.
 fn number_node(numbers: &mut [u16; 544], node: Node, i: usize)
     requires { ⌜ (i < 254) × (length (now numbers) ≡ 544) ⌝ }
-    ensures { λ _. ⌜ now (numbers .exit) ≡ set (set (now (numbers .entry)) (node .0) (i + 2)) (node .0 + 256) (i + 258) ⌝ }
+    ensures { λ _. ⌜ now (numbers .exit) ≡ set (set (now (numbers .entry)) (node .0) (highCell i)) (lowArcOf (node .0)) (lowCell i) ⌝ }
 {
     let m = node.number();
-    numbers[m] = i as u16 + 2;
-    numbers[m + 256] = i as u16 + 258;
+    numbers[m] = (i + HIGH_CELLS) as u16;
+    numbers[m + LOW_OFFSET] = (i + LOW_CELLS) as u16;
 }
 
 // The weights of the first `count` arcs of a list, which has arcs' numbers alone, as `order_arcs` leaves it.
@@ -130,8 +137,8 @@ pub fn weigh_losses(
     losses: &mut [u64; 256],
 )
     requires sizes { ⌜ (n ≤ 254) × (length (now losses) ≡ 256) × ((k : ℕ) → getD (now positions) k 0 < 64) × ((i : ℕ) → i < n → getD (now order) i 0 < 256) ⌝ }
-    requires fits { ⌜ ((i : ℕ) → i < n → getD (now marks) (getD (now positions) (getD (now order) i 0) 0) 0 ≡ 0 → (getD (now «low_arcs») (getD (now order) i 0) 0 * getD (now values) (getD (now low) (getD (now order) i 0) 0) 0 ≤ getD (now values) (getD (now order) i 0) 0) × (getD (now values) (getD (now order) i 0) 0 ≤ 2 ^ 56)) ⌝ }
-    ensures { λ _. ⌜ now (losses .exit) ≡ over (sequence (λ (i : ℕ). lossOf (now (positions .entry)) (now (marks .entry)) (now (low .entry)) (now («low_arcs» .entry)) (now (values .entry)) (getD (now (order .entry)) i 0)) 0 n) (now (losses .entry)) ⌝ }
+    requires fits { ⌜ ((i : ℕ) → i < n → LossFits (now positions) (now marks) (now low) (now «low_arcs») (now values) (getD (now order) i 0)) ⌝ }
+    ensures { λ _. ⌜ now (losses .exit) ≡ lossesByRank (now (positions .entry)) (now (marks .entry)) (now (low .entry)) (now («low_arcs» .entry)) (now (values .entry)) (now (order .entry)) n (now (losses .entry)) ⌝ }
 {
     let mut i = 0;
     while i < n {
@@ -151,7 +158,7 @@ fn loss_of(
     node: Node,
 ) -> u64
     requires { ⌜ getD (now positions) (node .0) 0 < 64 ⌝ }
-    requires fits { ⌜ (getD (now marks) (getD (now positions) (node .0) 0) 0 ≡ 0 → (getD (now «low_arcs») (node .0) 0 * getD (now values) (getD (now low) (node .0) 0) 0 ≤ getD (now values) (node .0) 0) × (getD (now values) (node .0) 0 ≤ 2 ^ 56)) ⌝ }
+    requires fits { ⌜ LossFits (now positions) (now marks) (now low) (now «low_arcs») (now values) (node .0) ⌝ }
     ensures { λ r. ⌜ r ≡ lossOf (now (positions .entry)) (now (marks .entry)) (now (low .entry)) (now («low_arcs» .entry)) (now (values .entry)) (node .0) ⌝ }
 {
     if mark_of(positions, marks, node) != Plan::OPEN {

@@ -16,7 +16,8 @@ use Rattle.diagram.specs.Services.{refused, Reading, reading, readOutcome, sear
 use Rattle.diagram.specs.Printout.{refusalText, planText, searchText, jobOutcome, jobKits, programOutcome, printout}
 use Rattle.diagram.specs.declared.refusal.Refusal.{Refusal}
 use Rattle.diagram.proofs.Checked.{checked-passes, checked-stops, checked-end, read-refuses}
-use Rattle.cost.proofs.Kits.{kits-length, cost-padded}
+use Rattle.decoding.proofs.Kits.{kits-length}
+use Rattle.cost.proofs.Kits.{cost-padded}
 use Rattle.reading.specs.declared.answer.Summary.{Summary}
 use Rattle.reading.specs.declared.answer.ReadAnswer.{ReadAnswer}
 use Rattle.reading.specs.Answer.{outcomeOf}

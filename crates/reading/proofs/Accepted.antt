@@ -15,7 +15,7 @@ use lib.Dec.{eqb, leb}
 use borrow.Author.Tests.{ltb-false, leb-true, not-false}
 use Rattle.diagram.specs.Words.{wordAt, kind, fieldP, fieldQ, fieldR}
 use Rattle.diagram.specs.Table.{Variable, choice, chance, variableOf, recordOf, sequence, tableOf, variableCount, recordCount, choiceCount, scaleOf, scale}
-use Rattle.diagram.specs.Checks.{firstPlace, headingFault, isVariableWord, variableFault, choiceFault, scaleFault, isMonotoneAt, monotoneFault, placeZero, rewardFault}
+use Rattle.diagram.specs.Checks.{firstPlace, headingFault, isVariableWord, variableFault, choiceFault, scaleFault, isMonotoneAt, placeZero, rewardFault}
 use Rattle.diagram.proofs.Every.{both}
 use Rattle.diagram.proofs.Places.{sequence-length, none-at}
 use Rattle.diagram.proofs.Checked.{Passed}
@@ -23,10 +23,13 @@ use Rattle.diagram.proofs.Truth.{Formed}
 use Rattle.diagram.proofs.Implication.{implies-same}
 use Rattle.diagram.proofs.FirstVariable.{Shares, no-shares, choice-shares, chance-shares}
 use Rattle.diagram.proofs.Rising.{Monotone}
-use Rattle.implication.specs.Nodes.{Shaped}
-use Rattle.implication.proofs.Choosing.{variables-length}
-use Rattle.implication.proofs.Shape.{heading-variables, heading-records, record-past, shaped-formed}
-use Rattle.implication.proofs.Pairing.{unmonotone-at, unmonotone-test}
+use Rattle.decoding.specs.Nodes.{Shaped}
+use Rattle.decoding.specs.Decoding.{Accepted}
+use Rattle.decoding.proofs.Rooting.{roots-few, root-is}
+use Rattle.implication.specs.Nodes.{monotoneFaultIn}
+use Rattle.decoding.proofs.Choosing.{variables-length}
+use Rattle.decoding.proofs.Shape.{heading-variables, heading-records, records-length, record-past, shaped-formed}
+use Rattle.implication.proofs.Pairing.{unmonotone-at, unmonotone-test, fault-of-table}
 use Rattle.reading.proofs.Counting.{above}
 
 -- ---------------------------------------------------------------------------
@@ -34,10 +37,6 @@ use Rattle.reading.proofs.Counting.{above}
 
 pub passed-variables : {s : List ℕ} → Passed s → (1 ≤ length (tableOf s .variables)) × (length (tableOf s .variables) ≤ 60)
 passed-variables {s} h = rw variables-length (heading-variables s (h .heading))
-
-pub records-length : (s : List ℕ) → length (tableOf s .records) ≡ recordCount s
-unfolding tableOf
-records-length s = sequence-length (λ i. recordOf (wordAt s i)) (1 + variableCount s) (recordCount s)
 
 pub passed-records : {s : List ℕ} → Passed s → (1 ≤ length (tableOf s .records)) × (length (tableOf s .records) ≤ 254)
 passed-records {s} h = rw records-length (heading-records s (h .heading))
@@ -50,10 +49,11 @@ passed-formed {s} h = rw variables-length (shaped-formed s (passed-shaped h))
 
 -- past the last record both children are one
 pub passed-monotone : {s : List ℕ} → Passed s → Monotone (tableOf s)
-unfolding monotoneFault isMonotoneAt
+unfolding monotoneFaultIn isMonotoneAt
 passed-monotone {s} h k =
+    let none-found = fault-of-table s ∙ h .monotone in
     by-cases (decLt k (recordCount s))
-    (λ l. not-false _ (sym (unmonotone-test s k refl) ∙ none-at (unmonotone-at s) (1 + variableCount s) (recordCount s) k (h .monotone) l))
+    (λ l. not-false _ (sym (unmonotone-test (tableOf s) k refl) ∙ none-at (unmonotone-at (tableOf s)) (1 + length (tableOf s .variables)) (length (tableOf s .records)) k none-found (omega (arith, records-length s))))
     (λ l. rw (record-past s k (omega arith), implies-same, or-true))
 
 -- ---------------------------------------------------------------------------
@@ -98,9 +98,12 @@ whole-within number limit s heading e =
     let passes = none-at (above number limit s) 1 (variableCount s) (variableCount s - 1) e (omega arith) in
     ltb-false limit _ (rw (last, all) at passes)
 
-pub passed-choices : {s : List ℕ} → Passed s → choiceCount (tableOf s .variables) ≤ 20
+pub choices-within : (s : List ℕ) → headingFault s ≡ none → choiceFault s ≡ none → choiceCount (tableOf s .variables) ≤ 20
 unfolding choiceFault
-passed-choices {s} h = whole-within choiceCount 20 s (h .heading) (h .choices)
+choices-within s heading choices = whole-within choiceCount 20 s heading choices
+
+pub passed-choices : {s : List ℕ} → Passed s → choiceCount (tableOf s .variables) ≤ 20
+passed-choices {s} h = choices-within s (h .heading) (h .choices)
 
 pub passed-product : {s : List ℕ} → Passed s → scaleOf (tableOf s .variables) ≤ 2 ^ 56
 unfolding scaleFault
@@ -115,3 +118,21 @@ passed-scale {s} h = ltb-false (2 ^ 56) _ (no-fault _ (h .reward))
     no-fault true e =
         let z : _≡_ {A = ℕ} 0 1 = cc in
         absurd (omega arith)
+
+-- ---------------------------------------------------------------------------
+-- The table of a file that no check finds at fault
+
+pub passed-accepted : {s : List ℕ} → Passed s → Accepted (tableOf s)
+passed-accepted {s} h =
+    record {
+      variables = passed-variables h;
+      records = passed-records h;
+      choices = passed-choices h;
+      shares = passed-shares h;
+      product = passed-product h;
+      formed = passed-formed h;
+      roots = roots-few s (h .heading) (h .roots);
+      rooted = λ i l. rw records-length (root-is s (h .heading) (h .roots) i l .within);
+      scaled = passed-scale h;
+      monotone = passed-monotone h;
+    }

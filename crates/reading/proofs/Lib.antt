@@ -1,6 +1,5 @@
 -- Laws for the proofs of this crate's functions.
 pub mod Counting
-pub mod Rooting
 pub mod Outcomes
 pub mod Accepted
 pub mod Shaping

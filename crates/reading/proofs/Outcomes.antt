@@ -1,20 +1,27 @@
--- What reading answers and what the arrays hold that are lent to it, after the checks 11 to 17, 26 and 27 and after all.
+-- What reading answers after the checks 11 to 17, 26 and 27 and after all, and what it hands out.
 -- Assumes nothing.
 use Prim.Native.Nat.{ℕ}
+use native.Mathlib.Omega.{arith}
 use mathlib.Core.Path.{_≡_, refl, ap, sym, _∙_}
 use mathlib.Core.Option.{none, some}
 use mathlib.Core.List.{List, []}
-use Rattle.diagram.specs.Checks.{headingFault, recordFault, monotoneFault, monotoneChecks, tableChecks}
-use Rattle.diagram.specs.Table.{Record, tableOf, variableCount, recordCount, choiceCount, scale}
-use Rattle.diagram.specs.Services.{Outcome, refused, answered, checked, written, reading, readOutcome, Reading}
-use Rattle.diagram.proofs.Checked.{checked-passes, checked-stops, checked-end, checked-append, checked-answered, checked-refused, answered-not-refused, first, later, passed-among, Passed, read-passed, read-reading}
+use Rattle.diagram.specs.Checks.{headingFault, choiceFault, recordFault, rootFault, monotoneFault, monotoneChecks, tableChecks}
+use Rattle.diagram.specs.Table.{tableOf, variableCount, recordCount, choiceCount, scale}
+use Rattle.diagram.specs.Services.{Outcome, refused, answered, checked, reading, readOutcome, Reading}
+use Rattle.diagram.proofs.Checked.{checked-passes, checked-stops, checked-end, checked-append, checked-answered, checked-refused, first, later, passed-among, Passed, read-passed, read-reading}
 use Rattle.diagram.specs.declared.refusal.Refusal.{Refusal}
-use Rattle.implication.specs.Nodes.{column, Shaped}
+use Rattle.decoding.specs.declared.table.Decoded.{Decoded}
+use Rattle.decoding.specs.Nodes.{Shaped}
+use Rattle.decoding.specs.Decoding.{tableIn, Held, Sound, emptyTable}
+use Rattle.decoding.proofs.Choosing.{variables-length}
+use Rattle.decoding.proofs.Shape.{heading-variables, heading-records, records-length, shaped-formed}
+use Rattle.decoding.proofs.Standing.{variables-in, records-in}
+use Rattle.implication.specs.Nodes.{Checkable}
 use Rattle.reading.specs.declared.answer.Summary.{Summary}
 use Rattle.reading.specs.declared.answer.ReadAnswer.{ReadAnswer}
 use Rattle.reading.specs.declared.answer.ReadAnswer.the-variants.{Refused}
-use Rattle.reading.specs.Answer.{outcomeOf, shapeChecks, shapeOutcome}
-use Rattle.reading.specs.Nodes.{columnOr}
+use Rattle.reading.specs.declared.answer.TableAnswer.{TableAnswer}
+use Rattle.reading.specs.Answer.{outcomeOf, Reads, shapeChecks, shapeOutcome}
 
 -- ---------------------------------------------------------------------------
 -- The answers of `read_shape` and `read`
@@ -40,6 +47,13 @@ module _ {o : Outcome Reading} {r : ReadAnswer} (promise : outcomeOf r ≡ o) wh
 -- ---------------------------------------------------------------------------
 -- Reading after the checks 11 to 17, 26 and 27
 
+-- The checks 12, 15, 17 and 26 have found nothing
+pub record Shown (s : List ℕ) : Type 0 where
+  pub heading : headingFault s ≡ none
+  pub choices : choiceFault s ≡ none
+  pub records : recordFault s ≡ none
+  pub roots : rootFault s ≡ none
+
 module _ (s : List ℕ) where
   -- a file that they refuse is refused
   pub shape-refuses : (n i : ℕ) → shapeOutcome s ≡ refused n i → readOutcome s ≡ refused n i
@@ -62,34 +76,23 @@ module _ (s : List ℕ) where
     past-18 q =
         sym e ∙ checked-answered s shapeChecks reading a _ e ∙ sym (check-18 ∙ checked-passes _ [] _ s q ∙ checked-end _ s)
 
-    -- the checks 12 and 17 of a file that they let through
-    pub shape-shaped : Shaped s
+    -- what they have shown of a file that they let through
+    pub shape-shown : Shown s
     unfolding shapeOutcome
-    shape-shaped =
+    shape-shown =
         record {
           heading = passed-among s a e 12 headingFault (search (first, later) depth 20);
+          choices = passed-among s a e 15 choiceFault (search (first, later) depth 20);
           records = passed-among s a e 17 recordFault (search (first, later) depth 20);
+          roots = passed-among s a e 26 rootFault (search (first, later) depth 20);
         }
 
--- ---------------------------------------------------------------------------
--- The arrays that are lent to reading
-
-module _ (s : List ℕ) (end : ℕ) (part : Record → ℕ) (held : List ℕ) where
-  pub column-kept : (n i : ℕ) → shapeOutcome s ≡ refused n i → held ≡ columnOr s end part held
-  unfolding columnOr written
-  column-kept n i e = rw e refl
-
-  pub column-new : (a : Reading) → shapeOutcome s ≡ answered a → column end part (tableOf s .records) ≡ columnOr s end part held
-  unfolding columnOr written
-  column-new a e = rw e refl
-
-  -- an accepted file's records are in the arrays
-  pub column-read : (a : Reading) → readOutcome s ≡ answered a → columnOr s end part held ≡ column end part (tableOf s .records)
-  column-read a e = go (shapeOutcome s) refl
-    where
-      go : (o : Outcome Reading) → shapeOutcome s ≡ o → columnOr s end part held ≡ column end part (tableOf s .records)
-      go (answered b) q = sym (column-new b q)
-      go (refused n i) q = absurd (answered-not-refused a n i (sym e ∙ shape-refuses s n i q))
+    -- the numbers are the table's
+    pub shape-reading : a ≡ reading s
+    unfolding shapeOutcome
+    shape-reading =
+        let q : answered a ≡ answered (reading s) = sym e ∙ checked-answered s shapeChecks reading a (λ file. answered (reading file)) e in
+        cc
 
 -- ---------------------------------------------------------------------------
 -- What the answer of `read` tells its callers
@@ -107,3 +110,43 @@ module _ (s : List ℕ) {r : ReadAnswer} (promise : outcomeOf r ≡ readOutcome 
   pub table-choices : (t : Summary) → r ≡ ReadAnswer.Table t → t .choices ≡ choiceCount (tableOf s .variables)
   unfolding reading
   table-choices t e = ap (λ (x : Reading). x .choices) (read-reading s _ (table-as promise t e))
+
+-- ---------------------------------------------------------------------------
+-- What `read_table` hands out
+
+module _ (s : List ℕ) {o : Outcome Reading} where
+  pub reads-refused : {r : TableAnswer} (x : Refusal) → r ≡ record { answer = Refused x; table = emptyTable } → refused (x .number) (x .place) ≡ o → Reads s o r
+  unfolding outcomeOf
+  reads-refused {r} x e q =
+      rw e
+      (record {
+        outcome = q;
+        accepted = λ t f. let z : _≡_ {A = ℕ} 0 1 = cc in absurd (omega arith);
+        refused = λ y f. refl;
+      })
+
+  pub reads-accepted : (d : Decoded) → tableIn d ≡ tableOf s → Sound d → (t : Summary) → answered (numbers t) ≡ o → Reads s o (record { answer = ReadAnswer.Table t; table = d })
+  unfolding outcomeOf
+  reads-accepted d stands sound t q =
+      record {
+        outcome = q;
+        accepted = λ u f. (stands, sound);
+        refused = λ y f. let z : _≡_ {A = ℕ} 0 1 = cc in absurd (omega arith);
+      }
+
+module _ (s : List ℕ) (d : Decoded) (stands : tableIn d ≡ tableOf s) where
+  pub variables-decoded : d .variables ≡ variableCount s
+  variables-decoded = sym (variables-in d) ∙ rw stands (variables-length s)
+
+  pub records-decoded : d .records ≡ recordCount s
+  records-decoded = sym (records-in d) ∙ rw stands (records-length s)
+
+  -- check 18 can be made
+  pub shown-checkable : Held d → Shown s → Checkable d
+  shown-checkable held h =
+      record {
+        held = held;
+        formed = rw (stands, variables-decoded) (shaped-formed s (record { heading = h .heading; records = h .records }));
+        few = omega (arith, variables-decoded, heading-variables s (h .heading));
+        most = omega (arith, records-decoded, heading-records s (h .heading));
+      }

@@ -1,4 +1,2 @@
--- What the enums of this crate stand for, and what its arrays hold.
+-- What the enums of this crate stand for.
 pub mod Answer
-pub mod Roots
-pub mod Nodes

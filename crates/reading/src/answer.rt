@@ -1,4 +1,5 @@
 // What reading answers.
+use decoding::Decoded;
 use diagram::Refusal;
 
 // V, N, the number of choices and B of a table.
@@ -13,4 +14,10 @@ pub struct Summary {
 pub enum ReadAnswer {
     Table(Summary),
     Refused(Refusal),
+}
+
+// What reading answers, and the table decoded; it is the empty one where the file is turned away.
+pub struct TableAnswer {
+    pub answer: ReadAnswer,
+    pub table: Decoded,
 }

@@ -8,63 +8,51 @@ mod words;
 
 pub use answer::ReadAnswer;
 pub use answer::Summary;
+pub use answer::TableAnswer;
+use decoding::decode;
+use decoding::empty;
 use diagram::Refusal;
-pub use implication::child_of;
-use implication::decode;
-pub use implication::is_choice;
 use implication::monotone_fault;
-pub use implication::position_of;
-pub use implication::record_count;
-pub use implication::variable_count;
-pub use roots::Root;
-pub use roots::root_at;
-pub use roots::root_count;
 use shape::read_shape;
 use steps::Fault;
 ghost use mathlib.Core.Path.{_≡_};
-ghost use lib.ListN.{length};
-ghost use Rattle.diagram.specs.Table.{Record, variableCount};
 ghost use Rattle.diagram.specs.Services.{readOutcome};
-ghost use Rattle.reading.specs.Answer.{outcomeOf};
-ghost use Rattle.reading.specs.Nodes.{columnOr};
+ghost use Rattle.decoding.specs.Decoding.{emptyTable};
+ghost use Rattle.reading.specs.Answer.{outcomeOf, Reads};
 
 // Reads a table: V, N, the number of choices and B, or the first reason in the papers' order for turning the file away.
 pub fn read(file: &[u8]) -> ReadAnswer
     ensures { λ r. ⌜ outcomeOf r ≡ readOutcome (now (file .entry)) ⌝ }
 {
-    let mut positions = [0u8; 256];
-    let mut high = [0u8; 256];
-    let mut low = [0u8; 256];
-    read_records(file, &mut positions, &mut high, &mut low)
+    let found = read_table(file);
+    found.answer
 }
 
-// Reads a table and copies its records to the arrays that are lent, as `decode` does. A file that a check before 18
-// turns away leaves them as they were. The lengths are the arrays' own; the callers lend local arrays.
-pub fn read_records(
-    file: &[u8],
-    positions: &mut [u8; 256],
-    high: &mut [u8; 256],
-    low: &mut [u8; 256],
-) -> ReadAnswer
-    requires sizes { ⌜ (length (now positions) ≡ 256) × (length (now high) ≡ 256) × (length (now low) ≡ 256) ⌝ }
-    ensures answer { λ r. ⌜ outcomeOf r ≡ readOutcome (now (file .entry)) ⌝ }
-    ensures positions { λ _. ⌜ now (positions .exit) ≡ columnOr (now (file .entry)) (variableCount (now (file .entry))) (λ (r : Record). r .position) (now (positions .entry)) ⌝ }
-    ensures high { λ _. ⌜ now (high .exit) ≡ columnOr (now (file .entry)) 0 (λ (r : Record). r .hi) (now (high .entry)) ⌝ }
-    ensures low { λ _. ⌜ now (low .exit) ≡ columnOr (now (file .entry)) 0 (λ (r : Record). r .lo) (now (low .entry)) ⌝ }
+// Reads a table and hands it out decoded, or the first reason for turning the file away.
+pub fn read_table(file: &[u8]) -> TableAnswer
+    ensures { λ r. ⌜ Reads (now (file .entry)) (readOutcome (now (file .entry))) r ⌝ }
 {
-    let t = match read_shape(file) {
+    let numbers = match read_shape(file) {
         ReadAnswer::Table(t) => t,
-        ReadAnswer::Refused(r) => return ReadAnswer::Refused(r),
+        ReadAnswer::Refused(r) => return turned_away(r),
     };
-    decode(file, positions, high, low);
-    if let Fault::At(place) = monotone_fault(file, positions, high, low) {
-        return refuse(18, place);
+    let table = decode(file, numbers.scale);
+    if let Fault::At(place) = monotone_fault(table) {
+        return turned_away(Refusal { number: 18, place });
     }
-    ReadAnswer::Table(t)
+    TableAnswer {
+        answer: ReadAnswer::Table(numbers),
+        table,
+    }
 }
 
-fn refuse(number: u8, place: usize) -> ReadAnswer
-    ensures { λ r. ⌜ r ≡ ReadAnswer.Refused (record { number = number; place = place }) ⌝ }
+// A refusal, with the empty table.
+pub fn turned_away(why: Refusal) -> TableAnswer
+    ensures { λ r. ⌜ r ≡ record { answer = ReadAnswer.Refused why; table = emptyTable } ⌝ }
 {
-    ReadAnswer::Refused(Refusal { number, place })
+    let table = empty();
+    TableAnswer {
+        answer: ReadAnswer::Refused(why),
+        table,
+    }
 }

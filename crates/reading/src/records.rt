@@ -1,4 +1,8 @@
 // Check 17: the record words. The positions of the records passed are kept, since a record's children come before it.
+use decoding::position_of;
+use decoding::record_count;
+use decoding::store;
+use decoding::variable_count;
 use diagram::Node;
 use diagram::Position;
 use diagram::field_p;
@@ -6,10 +10,6 @@ use diagram::field_q;
 use diagram::field_r;
 use diagram::kind;
 use diagram::word_at;
-use implication::position_of;
-use implication::record_count;
-use implication::store;
-use implication::variable_count;
 use steps::Fault;
 ghost use mathlib.Core.Path.{_≡_};
 ghost use mathlib.Core.Option.{none};
@@ -17,8 +17,8 @@ ghost use mathlib.Core.List.{List};
 ghost use Prim.Native.Nat.{ℕ, _<_};
 ghost use Rattle.diagram.specs.Table.{Record};
 ghost use Rattle.diagram.specs.Checks.{headingFault, recordFault, isChild, isRecordWord};
+ghost use Rattle.decoding.specs.Nodes.{Placed};
 ghost use Rattle.steps.specs.Steps.{faultOf};
-ghost use Rattle.implication.specs.Nodes.{Placed};
 
 // Check 17. That the heading is right, check 12 has shown.
 pub fn record_fault(file: &[u8]) -> Fault

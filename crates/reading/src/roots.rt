@@ -1,31 +1,25 @@
-// The roots of a table: the root words with the checks 26 and 27, and the roots by number.
+// The checks 26 and 27: the root words, and B.
 use crate::variables::exceeds;
-use crate::words::root_word_count;
-use diagram::Node;
+use decoding::record_count;
+use decoding::root_at;
+use decoding::root_count;
+use decoding::root_word_count;
+use decoding::variable_count;
+use diagram::MOST_REWARD;
 use diagram::field_p;
 use diagram::field_q;
 use diagram::field_r;
 use diagram::kind;
 use diagram::word_at;
-use implication::record_count;
-use implication::variable_count;
 use steps::Bounded;
 use steps::Fault;
 ghost use mathlib.Core.Path.{_≡_};
 ghost use mathlib.Core.Option.{none};
-ghost use Prim.Native.Nat.{_<_, _≤_};
-ghost use lib.ListN.{length};
+ghost use Prim.Native.Nat.{_<_};
 ghost use Rattle.diagram.specs.Table.{tableOf, totalReward, scaleOf};
 ghost use Rattle.diagram.specs.Table as table;
 ghost use Rattle.diagram.specs.Checks.{headingFault, isRootWord, rootFault, rewardFault};
 ghost use Rattle.steps.specs.Steps.{faultOf, boundedBy};
-ghost use Rattle.reading.specs.Roots.{rootAt};
-
-// A root: the node that its walk starts at, and its reward.
-pub struct Root {
-    pub node: Node,
-    pub reward: u64,
-}
 
 // Check 26.
 pub fn root_fault(file: &[u8]) -> Fault
@@ -59,7 +53,7 @@ fn is_root_word(n: usize, w: u32) -> bool
     if reward < 1 {
         return false;
     }
-    if 64 < reward {
+    if MOST_REWARD < reward {
         return false;
     }
     let node = field_r(w);
@@ -67,37 +61,6 @@ fn is_root_word(n: usize, w: u32) -> bool
         return false;
     }
     node as usize <= n + 1
-}
-
-// How many roots a table has: one for each root word, and one where there is none.
-pub fn root_count(file: &[u8]) -> usize
-    ensures count { λ r. ⌜ r ≡ length (tableOf (now (file .entry)) .roots) ⌝ }
-    ensures some { λ r. ⌜ (1 ≤ r) × (r < 2048) ⌝ }
-{
-    let count = root_word_count(file);
-    if count == 0 {
-        return 1;
-    }
-    count
-}
-
-// A root: that of a root word, or the last record with reward 1 where there is none. The checks 12 and 26 have passed.
-pub fn root_at(file: &[u8], i: usize) -> Root
-    requires { ⌜ (headingFault (now file) ≡ none) × (rootFault (now file) ≡ none) × (i < length (tableOf (now file) .roots)) ⌝ }
-    ensures { λ r. ⌜ (r .node .0 ≡ rootAt (tableOf (now (file .entry)) .roots) i .node) × (r .reward ≡ rootAt (tableOf (now (file .entry)) .roots) i .reward) ⌝ }
-{
-    let n = record_count(file);
-    if root_word_count(file) == 0 {
-        return Root {
-            node: Node::of_record(n - 1),
-            reward: 1,
-        };
-    }
-    let w = word_at(file, 1 + variable_count(file) as usize + n + i);
-    Root {
-        node: Node::new(field_r(w) as u8),
-        reward: field_q(w) as u64,
-    }
 }
 
 // Check 27: B, from the product of b. It is tested before it is made. The checks 12 and 26 have passed, and check 16 has found

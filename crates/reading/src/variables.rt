@@ -1,12 +1,16 @@
 // The checks 14 to 16: the variable words, the number of choices and the product of b.
+use decoding::is_choice;
+use decoding::variable_count;
+use diagram::MOST_MORE_KITS;
+use diagram::MOST_PARTS;
+use diagram::MOST_SCALE;
+use diagram::Plan;
 use diagram::Position;
 use diagram::field_p;
 use diagram::field_q;
 use diagram::field_r;
 use diagram::kind;
 use diagram::word_at;
-use implication::is_choice;
-use implication::variable_count;
 use steps::Bounded;
 use steps::Fault;
 ghost use mathlib.Core.Path.{_≡_};
@@ -44,7 +48,7 @@ fn is_variable_word(at: Position, w: u32) -> bool
         if a != 0 {
             return false;
         }
-        return b <= 500;
+        return b <= MOST_MORE_KITS;
     }
     if kind(w) != 3 {
         return false;
@@ -52,7 +56,7 @@ fn is_variable_word(at: Position, w: u32) -> bool
     if b < 1 {
         return false;
     }
-    if 1000 < b {
+    if MOST_PARTS < b {
         return false;
     }
     a <= b
@@ -68,7 +72,7 @@ pub fn choices(file: &[u8]) -> Bounded
     while p < v {
         let at = Position::new(p);
         if is_choice(file, at) {
-            if count == 20 {
+            if count == Plan::MOST as u64 {
                 return Bounded {
                     fault: Fault::At(at.word()),
                     value: 0,
@@ -118,5 +122,5 @@ pub fn exceeds(x: u64, b: u64) -> bool
     if b == 0 {
         return false;
     }
-    72057594037927936 / b < x
+    MOST_SCALE / b < x
 }

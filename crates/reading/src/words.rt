@@ -1,25 +1,20 @@
 // The checks 11 to 13: the file's length and its heading.
+use decoding::record_count;
+use decoding::root_word_count;
+use decoding::variable_count;
+use diagram::MOST_BYTES;
+use diagram::MOST_RECORDS;
+use diagram::MOST_ROOTS;
+use diagram::MOST_VARIABLES;
 use diagram::field_p;
 use diagram::field_q;
 use diagram::field_r;
 use diagram::kind;
 use diagram::word_at;
-use implication::record_count;
-use implication::variable_count;
 use steps::Fault;
 ghost use mathlib.Core.Path.{_≡_};
-ghost use Prim.Native.Nat.{_<_};
-ghost use Rattle.diagram.specs.Table.{rootCount};
 ghost use Rattle.diagram.specs.Checks.{lengthFault, isHeading, headingFault, countFault};
 ghost use Rattle.steps.specs.Steps.{faultOf};
-
-// The number of root words: R of the heading.
-pub fn root_word_count(file: &[u8]) -> usize
-    ensures count { λ r. ⌜ r ≡ rootCount (now (file .entry)) ⌝ }
-    ensures small { λ r. ⌜ r < 2048 ⌝ }
-{
-    field_r(word_at(file, 0)) as usize
-}
 
 // Check 11.
 pub fn length_fault(file: &[u8]) -> Fault
@@ -29,7 +24,7 @@ pub fn length_fault(file: &[u8]) -> Fault
     if n < 4 {
         return Fault::At(0);
     }
-    if 1324 < n {
+    if MOST_BYTES < n {
         return Fault::At(0);
     }
     if n % 4 == 0 {
@@ -60,17 +55,17 @@ fn is_heading(w: u32) -> bool
     if v < 1 {
         return false;
     }
-    if 60 < v {
+    if MOST_VARIABLES < v {
         return false;
     }
     let n = field_q(w);
     if n < 1 {
         return false;
     }
-    if 254 < n {
+    if MOST_RECORDS < n {
         return false;
     }
-    field_r(w) <= 16
+    field_r(w) <= MOST_ROOTS
 }
 
 // Check 13.

@@ -20,10 +20,11 @@ use Rattle.steps.specs.declared.verdict.Verdict.{Verdict}
 use Rattle.steps.specs.declared.verdict.Verdict.the-variants.{Passes, Refused}
 use Rattle.steps.specs.Steps.{findingAfter, finding}
 use Rattle.steps.proofs.Stepping.{passes-among, passes-next, request-passes, request-stops}
-use Rattle.implication.proofs.Shape.{none-passes}
+use Rattle.decoding.proofs.Shape.{none-passes}
 use Rattle.reading.specs.declared.answer.Summary.{Summary}
 use Rattle.reading.specs.declared.answer.ReadAnswer.{ReadAnswer}
-use Rattle.reading.specs.Answer.{outcomeOf}
+use Rattle.reading.specs.declared.answer.TableAnswer.{TableAnswer}
+use Rattle.reading.specs.Answer.{outcomeOf, Reads}
 use Rattle.reading.proofs.Outcomes.{numbers, refused-as, table-as, table-read}
 use Rattle.requesting.specs.Request.{requestChecks, requestOutcome}
 use Rattle.requesting.proofs.FullPlans.{Legal, legal-marks, full-closed, openTaken-same}
@@ -160,6 +161,17 @@ module _ (s p : List ℕ) (budget percent size : ℕ) where
 
 pub table-answered : (s : List ℕ) {r : ReadAnswer} → outcomeOf r ≡ readOutcome s → (t : Summary) → r ≡ ReadAnswer.Table t → answered (numbers t) ≡ answered (reading s)
 table-answered s promise t e = sym (table-as promise t e) ∙ table-read s promise t e
+
+-- what `read_table` hands out is handed out for a request that passes
+module _ (s p : List ℕ) (budget percent size : ℕ) {r : TableAnswer} (read : Reads s (readOutcome s) r) where
+  pub reads-found : (t : Summary) → r .answer ≡ ReadAnswer.Table t → {v : Verdict} → v ≡ finding (requestChecks p budget percent size) s → v ≡ Passes → Reads s (requestOutcome s p budget percent size) r
+  reads-found t e found q =
+      let answered-read = table-read s (read .outcome) t e in
+      record {
+        outcome = read .outcome ∙ answered-read ∙ request-found s p budget percent size answered-read found q;
+        accepted = read .accepted;
+        refused = read .refused;
+      }
 
 module _ (s p : List ℕ) (budget percent size : ℕ) {r : ReadAnswer} (promise : outcomeOf r ≡ requestOutcome s p budget percent size) where
   pub refused-request : (x : Refusal) → r ≡ ReadAnswer.Refused x → requestOutcome s p budget percent size ≡ refused (x .number) (x .place)

@@ -1,10 +1,13 @@
 // The checks of a request: those of the file, and those of what comes with it, 21 to 25, as steps over the number of choices.
 mod plans;
 
+use diagram::MOST_BUDGET;
 use plans::full_plan_fault;
 use plans::mark_fault;
 use reading::ReadAnswer;
-use reading::read_records;
+use reading::TableAnswer;
+use reading::read_table;
+use reading::turned_away;
 use steps::Fault;
 use steps::Verdict;
 use steps::and_then;
@@ -12,40 +15,26 @@ ghost use mathlib.Core.Path.{_≡_};
 ghost use mathlib.Core.Bool.{not};
 ghost use mathlib.Core.List.{List};
 ghost use Prim.Native.Nat.{ℕ};
-ghost use lib.ListN.{length};
 ghost use lib.Dec.{eqb, ltb};
-ghost use Rattle.diagram.specs.Table.{Record, tableOf, variableCount, choiceCount};
+ghost use Rattle.diagram.specs.Table.{tableOf, choiceCount};
 ghost use Rattle.diagram.specs.Checks.{placeZero, fullPlanChecks, planChecks};
 ghost use Rattle.steps.specs.Steps.{faultOf, finding};
-ghost use Rattle.reading.specs.Answer.{outcomeOf};
-ghost use Rattle.reading.specs.Nodes.{columnOr};
+ghost use Rattle.reading.specs.Answer.{Reads};
 ghost use Rattle.requesting.specs.Request.{requestChecks, requestOutcome};
 
-// The checks of a file, and then 21 to 25. A service without kits or percent hands in 0 for them. The arrays are lent to
-// `read_records`; the lengths are their own, and the services lend local arrays.
-pub fn accept(
-    file: &[u8],
-    plan: &[u8],
-    budget: u32,
-    percent: u32,
-    size: usize,
-    positions: &mut [u8; 256],
-    high: &mut [u8; 256],
-    low: &mut [u8; 256],
-) -> ReadAnswer
-    requires sizes { ⌜ (length (now positions) ≡ 256) × (length (now high) ≡ 256) × (length (now low) ≡ 256) ⌝ }
-    ensures answer { λ r. ⌜ outcomeOf r ≡ requestOutcome (now (file .entry)) (now (plan .entry)) budget percent size ⌝ }
-    ensures positions { λ _. ⌜ now (positions .exit) ≡ columnOr (now (file .entry)) (variableCount (now (file .entry))) (λ (r : Record). r .position) (now (positions .entry)) ⌝ }
-    ensures high { λ _. ⌜ now (high .exit) ≡ columnOr (now (file .entry)) 0 (λ (r : Record). r .hi) (now (high .entry)) ⌝ }
-    ensures low { λ _. ⌜ now (low .exit) ≡ columnOr (now (file .entry)) 0 (λ (r : Record). r .lo) (now (low .entry)) ⌝ }
+// The checks of a file, and then 21 to 25. A service without kits or percent hands in 0 for them.
+pub fn accept(file: &[u8], plan: &[u8], budget: u32, percent: u32, size: usize) -> TableAnswer
+    ensures { λ r. ⌜ Reads (now (file .entry)) (requestOutcome (now (file .entry)) (now (plan .entry)) budget percent size) r ⌝ }
 {
-    let t = match read_records(file, positions, high, low) {
-        ReadAnswer::Table(t) => t,
-        ReadAnswer::Refused(r) => return ReadAnswer::Refused(r),
+    let found = read_table(file);
+    let answer = found.answer;
+    let numbers = match answer {
+        ReadAnswer::Table(numbers) => numbers,
+        ReadAnswer::Refused(r) => return turned_away(r),
     };
-    match check_request(plan, budget, percent, size, t.choices) {
-        Verdict::Passes => ReadAnswer::Table(t),
-        Verdict::Refused(r) => ReadAnswer::Refused(r),
+    match check_request(plan, budget, percent, size, numbers.choices) {
+        Verdict::Passes => found,
+        Verdict::Refused(r) => turned_away(r),
     }
 }
 
@@ -55,7 +44,7 @@ pub fn check_request(plan: &[u8], budget: u32, percent: u32, size: usize, choice
 {
     let found = check_plan(plan, choices);
     let found = and_then(found, 23, above(100, percent));
-    let found = and_then(found, 24, above(10020, budget));
+    let found = and_then(found, 24, above(MOST_BUDGET, budget));
     and_then(found, 25, unequal(size, choices))
 }
 

@@ -17,10 +17,11 @@ use Rattle.diagram.proofs.Places.{sequence-length, sequence-at}
 use Rattle.diagram.proofs.Checked.{Passed}
 use Rattle.diagram.proofs.Locality.{position-le, position-less}
 use Rattle.diagram.proofs.FirstVariable.{Shares, no-shares, choice-shares, chance-shares, scale-positive}
-use Rattle.implication.specs.Nodes.{column}
-use Rattle.implication.proofs.Choosing.{variables-length}
-use Rattle.implication.proofs.Columns.{front-position}
-use Rattle.implication.proofs.Pairing.{column-at, variable-at}
+use Rattle.decoding.specs.Nodes.{column}
+use Rattle.decoding.proofs.Choosing.{variables-length}
+use Rattle.decoding.proofs.Columns.{front-position}
+use Rattle.decoding.proofs.Columns.{column-at}
+use Rattle.decoding.proofs.Choosing.{variable-at}
 use Rattle.reading.proofs.Accepted.{passed-variables, passed-formed, passed-shares, passed-product}
 use Rattle.scoring.specs.Value.{place, gap, variableAt, highShare, lowShare, highArc, lowArc}
 use Rattle.scoring.specs.Passes.{over, byNode, products, sharesBy, highShares, lowShares, arcWeight, Weighable, Decoded}

@@ -11,8 +11,8 @@ use Rattle.diagram.specs.Plans.{openTaken, upperBound}
 use Rattle.diagram.proofs.Checked.{Passed}
 use Rattle.diagram.proofs.Locality.{position-le}
 use Rattle.diagram.proofs.FirstVariable.{score-le-scale, scale-positive}
-use Rattle.implication.specs.Nodes.{column}
-use Rattle.implication.proofs.Choosing.{variables-length}
+use Rattle.decoding.specs.Nodes.{column}
+use Rattle.decoding.proofs.Choosing.{variables-length}
 use Rattle.reading.proofs.Accepted.{passed-formed, passed-shares, passed-scale, passed-product, passed-variables, passed-records}
 use Rattle.scoring.specs.Value.{place, gap, highArc, lowArc}
 use Rattle.scoring.specs.Passes.{over, byNode, products, Decoded, marksByPosition, Marked}

@@ -13,8 +13,8 @@ use lib.Seq.{getD-drop, getD-set-same, getD-set-other, ext-getD}
 use borrow.Author.Count.{below-more}
 use Rattle.diagram.specs.Table.{Variable, choice, chance, tableOf, isChoice, choiceCount, variableCount}
 use Rattle.diagram.proofs.Places.{sequence-length, sequence-at}
-use Rattle.implication.proofs.Choosing.{variables-length}
-use Rattle.implication.proofs.Pairing.{variable-at}
+use Rattle.decoding.proofs.Choosing.{variables-length}
+use Rattle.decoding.proofs.Choosing.{variable-at}
 use Rattle.reading.proofs.Counting.{first, next, choice-more, choice-same}
 use Rattle.scoring.specs.Value.{marksFrom}
 use Rattle.scoring.specs.Passes.{markOf, marksByPosition}

@@ -13,8 +13,8 @@ use lib.Seq.{take-all, getD-set-same, getD-set-other}
 use Rattle.diagram.specs.Table.{Table, sequence}
 use Rattle.diagram.specs.Score.{rewarded}
 use Rattle.diagram.specs.Plans.{openTaken, upperBound}
-use Rattle.reading.specs.Roots.{rootAt}
-use Rattle.reading.proofs.Rooting.{rewarded-next}
+use Rattle.decoding.specs.Decoding.{rootAt}
+use Rattle.decoding.proofs.Rooting.{rewarded-next}
 use Rattle.scoring.specs.declared.roots.Roots.{Roots}
 use Rattle.scoring.specs.Value.{place, value, gap, rootedSum}
 use Rattle.scoring.specs.Passes.{over, RootsHeldTo, RootsHeld, rootSum, Marked}

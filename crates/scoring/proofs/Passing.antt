@@ -20,8 +20,8 @@ use Rattle.diagram.specs.Plans.{openTaken}
 use Rattle.diagram.proofs.Places.{sequence-at, sequence-past, sequence-snoc}
 use Rattle.diagram.proofs.Locality.{position-less}
 use Rattle.diagram.proofs.FirstVariable.{Shares, no-shares, choice-shares, chance-shares}
-use Rattle.implication.specs.Nodes.{column}
-use Rattle.implication.proofs.Pairing.{column-at}
+use Rattle.decoding.specs.Nodes.{column}
+use Rattle.decoding.proofs.Columns.{column-at}
 use Rattle.scoring.specs.Value.{place, marksFrom, value, variableAt, markAt, highShare, lowShare, highWeight, lowWeight, highArc, lowArc}
 use Rattle.scoring.specs.Passes.{over, byNode, markOf, marksByPosition, highInForce, lowInForce, markAtNode, Arcs, nodeValue, passUp, Fits, Marked}
 use Rattle.scoring.proofs.Over.{over-getD, over-next, over-ends, over-at}

@@ -8,8 +8,8 @@ use lib.Dec.{eqb}
 use Rattle.diagram.specs.Table.{Variable, Table, Record, chance, sequence, tableOf, variableCount, isChoice, choiceCount, scaleOf, scale}
 use Rattle.diagram.proofs.Truth.{Formed}
 use Rattle.diagram.proofs.FirstVariable.{Shares}
-use Rattle.implication.specs.Nodes.{column}
-use Rattle.reading.specs.Roots.{rootAt}
+use Rattle.decoding.specs.Nodes.{column}
+use Rattle.decoding.specs.Decoding.{rootAt}
 use Rattle.scoring.specs.declared.roots.Roots.{Roots}
 use Rattle.scoring.specs.Value.{place, marksFrom, gap, highShare, lowShare, highArc, lowArc}
 
@@ -78,9 +78,13 @@ rootSum rs vs (suc i) = rootSum rs vs i + getD (rs .weights) (i + 2) 0 * getD vs
 -- ---------------------------------------------------------------------------
 -- What is computed once for a plan
 
--- The mark in force at position x: a choice's own, and 3 for a chance, both of whose arcs are in force
+-- The mark at a chance, which no plan has
+abbrev pub chanceMark : ℕ
+chanceMark = 3
+
+-- The mark in force at position x: a choice's own, or a chance's, both of whose arcs are in force
 unfoldable pub markOf : Table → (plan : List ℕ) → (x : ℕ) → ℕ
-markOf t p x = cond (isChoice (getD (t .variables) x (chance 0 1))) (getD (marksFrom t x p) 0 0) 3
+markOf t p x = cond (isChoice (getD (t .variables) x (chance 0 1))) (getD (marksFrom t x p) 0 0) chanceMark
 
 -- The marks in force at all positions
 unfoldable pub marksByPosition : Table → (plan : List ℕ) → List ℕ
@@ -92,7 +96,7 @@ highInForce m w = cond (eqb m 2) 0 w
 
 -- The lo arc is in force where the line is left, and at a chance
 unfoldable pub lowInForce : (mark arc : ℕ) → ℕ
-lowInForce m w = cond (eqb m 2 || eqb m 3) w 0
+lowInForce m w = cond (eqb m 2 || eqb m chanceMark) w 0
 
 -- The mark of record k, from the arrays
 unfoldable pub markAtNode : (positions marks : List ℕ) → (k : ℕ) → ℕ

@@ -1,14 +1,14 @@
 // The weights of a table's arcs: computed once for a table, whatever the plan.
+use decoding::child_of;
+use decoding::is_choice;
+use decoding::position_of;
+use decoding::variable_count;
 use diagram::Node;
 use diagram::Position;
 use diagram::field_q;
 use diagram::field_r;
 use diagram::kind;
 use diagram::word_at;
-use reading::child_of;
-use reading::is_choice;
-use reading::position_of;
-use reading::variable_count;
 ghost use mathlib.Core.Path.{_≡_};
 ghost use mathlib.Core.List.{[], _∷_};
 ghost use Prim.Native.Nat.{_+_, _*_, _/_, _≤_, _<_, _^_};

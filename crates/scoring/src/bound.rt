@@ -5,8 +5,8 @@ use crate::layout::lay_out;
 use crate::pass::pass_up;
 use crate::roots::Roots;
 use crate::roots::root_sum;
+use decoding::record_count;
 use diagram::Node;
-use reading::record_count;
 ghost use mathlib.Core.Path.{_≡_};
 ghost use mathlib.Core.List.{List};
 ghost use Prim.Native.Nat.{ℕ, _+_, _≤_};
@@ -19,12 +19,12 @@ ghost use Rattle.scoring.specs.Passes.{over, Decoded, RootsHeld, Marked}
 
 // The score with all open lines taken, of a file that has passed every check and a plan that checks 21 and 22 let through. The
 // arrays hold the file's records.
-pub fn upper_bound(
+pub fn upper_bound<'a>(
     file: &[u8],
     plan: &[u8],
-    positions: &[u8; 256],
-    high: &[u8; 256],
-    low: &[u8; 256],
+    positions: &'a [u8; 256],
+    high: &'a [u8; 256],
+    low: &'a [u8; 256],
 ) -> u64
     requires passed { ⌜ Passed (now file) ⌝ }
     requires plan { ⌜ (length (now plan) ≡ choiceCount (tableOf (now file) .variables)) × ((i : ℕ) → getD (now plan) i 0 ≤ 2) ⌝ }

@@ -1,10 +1,10 @@
 // The arcs that are in force under a plan.
+use decoding::is_choice;
+use decoding::position_of;
+use decoding::variable_count;
 use diagram::Node;
 use diagram::Plan;
 use diagram::Position;
-use reading::is_choice;
-use reading::position_of;
-use reading::variable_count;
 ghost use mathlib.Core.Path.{_≡_};
 ghost use Prim.Native.Nat.{ℕ, _≤_, _<_, _+_};
 ghost use lib.ListN.{length, getD};
@@ -12,13 +12,13 @@ ghost use Rattle.diagram.specs.Table.{tableOf, choiceCount};
 ghost use Rattle.scoring.specs.Passes as passes;
 ghost use Rattle.scoring.specs.Passes.{over, byNode, markAtNode, highInForce, lowInForce};
 
-// The mark in force at each position, 3 at a chance. The plan has one byte a choice, as check 21 asks.
+// The mark in force at each position, `CHANCE` at a chance. The plan has one byte a choice, as check 21 asks.
 pub fn marks_by_position(file: &[u8], plan: &[u8]) -> [u8; 64]
     requires { ⌜ length (now plan) ≡ choiceCount (tableOf (now file) .variables) ⌝ }
     ensures { λ r. ⌜ r ≡ passes.marksByPosition (tableOf (now (file .entry))) (now (plan .entry)) ⌝ }
 {
     let v = variable_count(file);
-    let mut marks = [3u8; 64];
+    let mut marks = [Plan::CHANCE; 64];
     let mut choice = 0;
     let mut p = 0;
     while p < v {
@@ -82,5 +82,5 @@ fn low_weight(mark: u8, arc: u64) -> u64
     if mark == Plan::LEFT {
         return arc;
     }
-    if mark == 3 { arc } else { 0 }
+    if mark == Plan::CHANCE { arc } else { 0 }
 }

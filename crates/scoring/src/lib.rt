@@ -20,7 +20,7 @@ pub use force::marks_by_position;
 pub use layout::lay_out;
 pub use pass::pass_up;
 use reading::ReadAnswer;
-use reading::read_records;
+use reading::read_table;
 use requesting::check_full_plan;
 pub use roots::Roots;
 pub use roots::root_sum;
@@ -33,15 +33,21 @@ ghost use Rattle.scoring.specs.Answer.{outcomeOf};
 pub fn score(file: &[u8], plan: &[u8]) -> ScoreAnswer
     ensures { λ r. ⌜ outcomeOf r ≡ scoreOutcome (now (file .entry)) (now (plan .entry)) ⌝ }
 {
-    let mut positions = [0u8; 256];
-    let mut high = [0u8; 256];
-    let mut low = [0u8; 256];
-    let t = match read_records(file, &mut positions, &mut high, &mut low) {
-        ReadAnswer::Table(t) => t,
+    let found = read_table(file);
+    let answer = found.answer;
+    let numbers = match answer {
+        ReadAnswer::Table(numbers) => numbers,
         ReadAnswer::Refused(r) => return ScoreAnswer::Refused(r),
     };
-    match check_full_plan(plan, t.choices) {
-        Verdict::Passes => ScoreAnswer::Score(upper_bound(file, plan, &positions, &high, &low)),
+    let t = found.table;
+    match check_full_plan(plan, numbers.choices) {
+        Verdict::Passes => ScoreAnswer::Score(upper_bound(
+            file,
+            plan,
+            &t.positions,
+            &t.high,
+            &t.low,
+        )),
         Verdict::Refused(r) => ScoreAnswer::Refused(r),
     }
 }

@@ -1,16 +1,16 @@
 // The roots of a table as the passes want them, and the sum over them.
 use crate::bound::value_of;
+use decoding::position_of;
+use decoding::root_at;
+use decoding::root_count;
 use diagram::Node;
 use diagram::Position;
-use reading::position_of;
-use reading::root_at;
-use reading::root_count;
 ghost use mathlib.Core.Path.{_≡_};
 ghost use Prim.Native.Nat.{_/_, _≤_, _<_, _^_};
 ghost use lib.ListN.{getD};
 ghost use Rattle.diagram.specs.Table.{Record, tableOf, variableCount};
 ghost use Rattle.diagram.proofs.Checked.{Passed};
-ghost use Rattle.implication.specs.Nodes.{column};
+ghost use Rattle.decoding.specs.Nodes.{column};
 ghost use Rattle.scoring.specs.Passes as passes;
 ghost use Rattle.scoring.specs.Passes.{RootsHeld, rootSum};
 

@@ -21,7 +21,7 @@ use Rattle.requesting.proofs.Requests.{Proper, proper, search-refused, search-a
 use Rattle.search.specs.declared.answer.SearchAnswer.{SearchAnswer}
 use Rattle.search.specs.declared.answer.SearchAnswer.the-variants.{Found, Refused}
 use Rattle.search.specs.Answer.{searchOf, visitsOf}
-use Rattle.search.specs.State.{Explored}
+use Rattle.search.specs.State.{Searched}
 
 module _ (s p held : List ℕ) (budget percent : ℕ) where
   -- What `search` promises of its answer and of its buffer
@@ -40,7 +40,7 @@ module _ (s p held : List ℕ) (budget percent : ℕ) where
   pub search-turned : (x : Refusal) → requestOutcome s p budget percent (length held) ≡ refused (x .number) (x .place) → Promised (Refused x) held
   search-turned x e = refuses x (search-refused s p (length held) percent budget (x .number) (x .place) e)
 
-  module _ (r : Reading) (e : requestOutcome s p budget percent (length held) ≡ answered r) {least : ℕ} {best tally : List ℕ} (explored : Explored (tableOf s) percent budget least p best tally) where
+  module _ (r : Reading) (e : requestOutcome s p budget percent (length held) ≡ answered r) {least : ℕ} {best tally : List ℕ} (searched : Searched (tableOf s) percent budget least p best tally) where
     -- what the checks have found
     is-proper : Proper s p budget percent (length held)
     is-proper = proper s p budget percent (length held) r e
@@ -53,7 +53,7 @@ module _ (s p held : List ℕ) (budget percent : ℕ) where
     -- the visits are those counted
     visits-counted : visits.visitCount (tableOf s) budget percent p ≡ getD tally 2 0
     unfolding visits.visitCount
-    visits-counted = sym (explored .counts)
+    visits-counted = sym (searched .counts)
 
     -- 32 where nothing is held
     pub search-32 : getD tally 1 0 ≡ 0 → {n i : ℕ} → n ≡ 32 → i ≡ 0 → Promised (Refused (record { number = n; place = i })) held
@@ -67,7 +67,7 @@ module _ (s p held : List ℕ) (budget percent : ℕ) where
             (record { number = 32; place = 0 })
             (search-answered s p (length held) percent budget r e ∙ rw (best-held, q, searching) refl))
         go (some b) q =
-            let holding = explored .holds .something b q in
+            let holding = searched .holds .something b q in
             absurd (omega (arith, f, holding .room, holding .within))
 
     -- the plan held has 20 marks, where one is held
@@ -75,9 +75,9 @@ module _ (s p held : List ℕ) (budget percent : ℕ) where
     held-long h = go (visits.visited (tableOf s) budget percent p .held) refl
       where
         go : (o : Option (List ℕ)) → visits.visited (tableOf s) budget percent p .held ≡ o → length best ≡ 20
-        go none q = absurd (h (explored .holds .nothing q .1))
+        go none q = absurd (h (searched .holds .nothing q .1))
         go (some b) q =
-            let holding = explored .holds .something b q in
+            let holding = searched .holds .something b q in
             rw (holding .plan, length-append, length-replicate) (omega (arith, holding .size, passed-choices (is-proper .passed)))
 
     -- else the plan held, with its score and the visits
@@ -86,9 +86,9 @@ module _ (s p held : List ℕ) (budget percent : ℕ) where
     search-found h {out} w {x} {v} ex ev = go (visits.visited (tableOf s) budget percent p .held) refl
       where
         go : (o : Option (List ℕ)) → visits.visited (tableOf s) budget percent p .held ≡ o → Promised (Found (record { score = x; visits = v })) out
-        go none q = absurd (h (explored .holds .nothing q .1))
+        go none q = absurd (h (searched .holds .nothing q .1))
         go (some b) q =
-            let holding = explored .holds .something b q in
+            let holding = searched .holds .something b q in
             let size : length held ≡ length b = is-proper .sized ∙ sym (holding .size) in
             let own : out ≡ b = w ∙ rw (size, holding .plan) (take-append-seam b (replicate (20 - length b) 0)) in
             let is-found : searching (tableOf s) budget percent p ≡ answered (record { score = x; visits = v; plan = out }) = rw (best-held, q, visits-counted, ex, ev, holding .scored, own, searching) refl in

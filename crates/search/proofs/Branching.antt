@@ -17,6 +17,7 @@ use Rattle.cost.proofs.Kits.{cost-taken, cost-left}
 use Rattle.rule.proofs.Opening.{open-count-set}
 use Rattle.layers.specs.Layers.{Layers, passNodes, ownNodes, dropSum, leaveNodes, Enterable}
 use Rattle.layers.specs.Flows.{Line, Settles, Same}
+use Rattle.layers.specs.Lines.{firstRank, ownRank, nextRank, lineNumber, lineKits}
 use Rattle.search.specs.State.{padded, openLines, numbersFrom, Scene, Ground, Stands}
 use Rattle.search.proofs.OpenLines.{lines-none, lines-lowest, lines-count, lines-within, lines-open, lines-marked, taken-same}
 use Rattle.layers.proofs.Weights.{drop-top}
@@ -66,7 +67,7 @@ unfolding numbersFrom
 numbers-length lines zero = refl
 numbers-length lines (suc n) = ap suc (numbers-length lines n)
 
-numbers-next : (lines : List ℕ) (n : ℕ) → (n ≡ 0 → ⊥) → numbersFrom lines n ≡ getD lines (n + 42) 0 ∷ numbersFrom lines (n - 1)
+numbers-next : (lines : List ℕ) (n : ℕ) → (n ≡ 0 → ⊥) → numbersFrom lines n ≡ lineNumber lines n ∷ numbersFrom lines (n - 1)
 unfolding numbersFrom
 numbers-next lines zero more = absurd (more refl)
 numbers-next lines (suc n) more = let e : suc n - 1 ≡ n = omega arith in rw e refl
@@ -120,16 +121,16 @@ module _ {g : Scene} {l : Layers} {losses lines : List ℕ} (ground : Ground g l
     module _ (more : n ≡ 0 → ⊥) where
       -- its number, and where its layer, its own nodes, and what comes after them begin
       abbrev d : ℕ
-      d = getD lines (n + 42) 0
+      d = lineNumber lines n
 
       abbrev from : ℕ
-      from = getD lines n 0
+      from = firstRank lines n
 
       abbrev own : ℕ
-      own = getD lines (n + 21) 0
+      own = ownRank lines n
 
       abbrev to : ℕ
-      to = getD lines (n - 1) 0
+      to = nextRank lines n
 
       -- the plan's open lines are this one and those after it
       lines-next : openLines (g .plan) ≡ d ∷ numbersFrom lines (n - 1)
@@ -153,17 +154,11 @@ module _ {g : Scene} {l : Layers} {losses lines : List ℕ} (ground : Ground g l
 
       -- its layer
       pub line-layer : Line (g .table) (g .start) (g .order) from own to d
-      line-layer =
-          let some : n - 1 + 1 ≡ n = omega (arith, more) in
-          let begins : n - 1 + 22 ≡ n + 21 = omega (arith, more) in
-          let number : n - 1 + 43 ≡ n + 42 = omega (arith, more) in
-          rw (some, begins, number) at (ground .layer (n - 1) (omega (arith, more, stands .few)))
+      line-layer = ground .layer n (omega (arith, more)) (stands .few)
 
       -- its kits
-      line-price : getD lines (n - 1 + 64) 0 ≡ getD (g .table .kits) d 0
-      line-price =
-          let number : n - 1 + 43 ≡ n + 42 = omega (arith, more) in
-          rw number at (ground .priced (n - 1) (omega (arith, more, stands .few)))
+      line-price : lineKits lines (n - 1 + 1) ≡ getD (g .table .kits) d 0
+      line-price = let same : n - 1 + 1 ≡ n = omega (arith, more) in rw same (ground .priced n (omega (arith, more)) (stands .few))
 
       -- its layer may be left
       pub leavable : (own ≤ to) × (to ≤ 254)
@@ -229,7 +224,7 @@ module _ {g : Scene} {l : Layers} {losses lines : List ℕ} (ground : Ground g l
             (omega (arith, drop, top, stands .bounded), omega (arith, drop, top, stands .bounded))
 
         -- the plan with the line taken
-        pub taken-stands : (held : Option (List ℕ)) → Stands (marked g d 1 held) lines entered (set marks d 1) (n - 1) (room - getD lines (n - 1 + 64) 0) bound
+        pub taken-stands : (held : Option (List ℕ)) → Stands (marked g d 1 held) lines entered (set marks d 1) (n - 1) (room - lineKits lines (n - 1 + 1)) bound
         unfolding upperBound cost
         taken-stands held =
             let same = taken-same (g .plan) d line-open in

@@ -9,16 +9,17 @@ use mathlib.Core.Logic.{⊎-elim, _≢_}
 use mathlib.Core.List.{List}
 use lib.ListN.{length, getD, set, length-set}
 use lib.Seq.{getD-set-same, getD-set-other}
+use Rattle.layers.specs.Lines.{firstRank, ownRank, nextRank, lineNumber, lineKits}
 use Rattle.search.specs.State.{Ranked}
 
 -- The ranks, the numbers and the kits of the first n of `count` lines are written
 pub record RankedTo (count n : ℕ) (numbers places ends kits lines : List ℕ) : Type 0 where
   pub long : length lines ≡ 84
-  pub first : getD lines count 0 ≡ 0
-  pub own : (i : ℕ) → i < n → getD lines (count - i + 21) 0 ≡ getD ends (getD places (getD numbers i 0) 0) 0
-  pub to : (i : ℕ) → i < n → getD lines (count - i - 1) 0 ≡ getD ends (getD places (getD numbers i 0) 0 + 1) 0
-  pub number : (i : ℕ) → i < n → getD lines (count - i + 42) 0 ≡ getD numbers i 0
-  pub priced : (i : ℕ) → i < n → getD lines (count - i + 63) 0 ≡ getD kits (getD numbers i 0) 0
+  pub first : firstRank lines count ≡ 0
+  pub own : (i : ℕ) → i < n → ownRank lines (count - i) ≡ getD ends (getD places (getD numbers i 0) 0) 0
+  pub next : (i : ℕ) → i < n → nextRank lines (count - i) ≡ getD ends (getD places (getD numbers i 0) 0 + 1) 0
+  pub number : (i : ℕ) → i < n → lineNumber lines (count - i) ≡ getD numbers i 0
+  pub priced : (i : ℕ) → i < n → lineKits lines (count - i) ≡ getD kits (getD numbers i 0) 0
 
 -- what holds of the numbers below n and of n holds of those below n + 1
 up-to : (P : ℕ → Type 0) (n : ℕ) → ((i : ℕ) → i < n → P i) → P n → (i : ℕ) → i < n + 1 → P i
@@ -32,7 +33,7 @@ module _ (count : ℕ) (few : count ≤ 20) (numbers places ends kits : List ℕ
         long = length-set lines count 0 ∙ long;
         first = getD-set-same lines count 0 0 (omega arith);
         own = λ i h. absurd (omega arith);
-        to = λ i h. absurd (omega arith);
+        next = λ i h. absurd (omega arith);
         number = λ i h. absurd (omega arith);
         priced = λ i h. absurd (omega arith);
       }
@@ -43,7 +44,7 @@ module _ (count : ℕ) (few : count ≤ 20) (numbers places ends kits : List ℕ
       record {
         first = r .first;
         own = λ i l. r .own i (omega arith);
-        to = λ i l. r .to i (omega arith);
+        next = λ i l. r .next i (omega arith);
         number = λ i l. r .number i (omega arith);
         priced = λ i l. r .priced i (omega arith);
       }
@@ -100,9 +101,9 @@ module _ (count : ℕ) (few : count ≤ 20) (numbers places ends kits : List ℕ
               up-to (λ i. getD written (count - i + 21) 0 ≡ getD ends (getD places (getD numbers i 0) 0) 0) n
               (λ i l. other-cell (count - i + 21) (omega arith) (omega arith) (omega arith) (omega arith) ∙ ranked .own i l)
               (own-cell ∙ ea ∙ ap (λ (y : ℕ). getD ends y 0) e);
-          to =
+          next =
               up-to (λ i. getD written (count - i - 1) 0 ≡ getD ends (getD places (getD numbers i 0) 0 + 1) 0) n
-              (λ i l. other-cell (count - i - 1) (omega arith) (omega arith) (omega arith) (omega arith) ∙ ranked .to i l)
+              (λ i l. other-cell (count - i - 1) (omega arith) (omega arith) (omega arith) (omega arith) ∙ ranked .next i l)
               (to-cell ∙ eb ∙ ap (λ (y : ℕ). getD ends (y + 1) 0) e);
           number =
               up-to (λ i. getD written (count - i + 42) 0 ≡ getD numbers i 0) n

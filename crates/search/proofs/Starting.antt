@@ -34,7 +34,8 @@ use Rattle.sweep.proofs.Leaving.{choices-later}
 use Rattle.layers.specs.Chains.{pick, joined, placed}
 use Rattle.layers.specs.Layers.{Layers}
 use Rattle.layers.specs.Flows.{Stand, Line}
-use Rattle.search.specs.State.{priced, rows, padded, openFrom, openLines, choicePosition, Ranked, numbersFrom, Holds, Scene, Visitable, ruled, Visited, Arrays, Ending, Arranged, Explored}
+use Rattle.layers.specs.Lines.{firstRank, ownRank, nextRank, lineNumber, lineKits}
+use Rattle.search.specs.State.{priced, rows, padded, openFrom, openLines, choicePosition, Ranked, numbersFrom, Holds, Scene, Visitable, ruled, Visited, Arrays, Ending, Arranged, Searched}
 use Rattle.search.proofs.OpenLines.{lines-length}
 use Rattle.search.proofs.Priced.{priced-formed, priced-monotone, priced-bound, priced-passing, priced-layered, priced-line}
 use Rattle.layers.proofs.Ordering.{nodesAt, position-below, ends-rising, ends-mono, before-position, at-position, after-position, position-sum}
@@ -229,41 +230,43 @@ module _ (t : Table) (s : List ℕ) (long : length s ≡ choiceCount (t .variabl
         (rw (number-at i h) (omega (arith, at .within, long)), rw (place-at i h) (omega (arith, at .stand .within)))
 
     module _ {order ends kits lines : List ℕ} (ending : Ending t order ends) (ranked : Ranked count numbers places ends kits lines) where
-      own-at : (i n : ℕ) → i + (n + 1) ≡ count → getD lines (n + 22) 0 ≡ getD ends (choicePosition (t .variables) (getD (openLines s) i 0)) 0
-      own-at i n e =
-          let at : count - i + 21 ≡ n + 22 = omega arith in
+      own-at : (i n : ℕ) → 1 ≤ n → i + n ≡ count → ownRank lines n ≡ getD ends (choicePosition (t .variables) (getD (openLines s) i 0)) 0
+      own-at i n more e =
+          let at : count - i ≡ n = omega arith in
           rw (at, place-at i (omega arith)) at (ranked .own i (omega arith))
 
-      to-at : (i n : ℕ) → i + (n + 1) ≡ count → getD lines n 0 ≡ getD ends (choicePosition (t .variables) (getD (openLines s) i 0) + 1) 0
-      to-at i n e =
-          let at : count - i - 1 ≡ n = omega arith in
-          rw (at, place-at i (omega arith)) at (ranked .to i (omega arith))
+      next-at : (i n : ℕ) → 1 ≤ n → i + n ≡ count → nextRank lines n ≡ getD ends (choicePosition (t .variables) (getD (openLines s) i 0) + 1) 0
+      next-at i n more e =
+          let at : count - i ≡ n = omega arith in
+          rw (at, place-at i (omega arith)) at (ranked .next i (omega arith))
 
-      line-at : (i n : ℕ) → i + (n + 1) ≡ count → getD lines (n + 43) 0 ≡ getD (openLines s) i 0
-      line-at i n e =
-          let at : count - i + 42 ≡ n + 43 = omega arith in
+      line-at : (i n : ℕ) → 1 ≤ n → i + n ≡ count → lineNumber lines n ≡ getD (openLines s) i 0
+      line-at i n more e =
+          let at : count - i ≡ n = omega arith in
           rw (at, number-at i (omega arith)) at (ranked .number i (omega arith))
 
       -- the kits of each open line
-      pub kits-ranked : (n : ℕ) → n < openCount s → getD lines (n + 64) 0 ≡ getD (take (length s) kits) (getD lines (n + 43) 0) 0
-      kits-ranked n h =
-          let i = count - (n + 1) in
-          let e : i + (n + 1) ≡ count = omega (arith, open-counted) in
-          let at : count - i + 63 ≡ n + 64 = omega arith in
-          rw (line-at i n e, getD-take (length s) kits (getD (openLines s) i 0) 0 (opened-at i (omega arith) .within))
+      pub kits-ranked : (n : ℕ) → 1 ≤ n → n ≤ openCount s → lineKits lines n ≡ getD (take (length s) kits) (lineNumber lines n) 0
+      kits-ranked n more h =
+          let i = count - n in
+          let e : i + n ≡ count = omega (arith, open-counted) in
+          let at : count - i ≡ n = omega arith in
+          rw (line-at i n more e, getD-take (length s) kits (getD (openLines s) i 0) 0 (opened-at i (omega arith) .within))
           (rw (at, number-at i (omega arith)) at (ranked .priced i (omega arith)))
 
       -- the layer of each open line
-      pub layers-ranked : (n : ℕ) → n < openCount s → Line t s order (getD lines (n + 1) 0) (getD lines (n + 22) 0) (getD lines n 0) (getD lines (n + 43) 0)
-      layers-ranked n h = go (count - (n + 1)) (omega (arith, open-counted))
+      pub layers-ranked : (n : ℕ) → 1 ≤ n → n ≤ openCount s → Line t s order (firstRank lines n) (ownRank lines n) (nextRank lines n) (lineNumber lines n)
+      layers-ranked n more h = go (count - n) (omega (arith, open-counted))
         where
-          go : (i : ℕ) → i + (n + 1) ≡ count → Line t s order (getD lines (n + 1) 0) (getD lines (n + 22) 0) (getD lines n 0) (getD lines (n + 43) 0)
+          go : (i : ℕ) → i + n ≡ count → Line t s order (firstRank lines n) (ownRank lines n) (nextRank lines n) (lineNumber lines n)
           go zero e =
-              let all : count ≡ n + 1 = omega arith in
-              let from : getD lines (n + 1) 0 ≡ 0 = rw all at (ranked .first) in
-              rw (from, own-at 0 n e, to-at 0 n e, line-at 0 n e) (first-line ending (opened-at 0 (omega arith)))
+              let all : count ≡ n = omega arith in
+              let from : firstRank lines n ≡ 0 = rw all at (ranked .first) in
+              rw (from, own-at 0 n more e, next-at 0 n more e, line-at 0 n more e) (first-line ending (opened-at 0 (omega arith)))
           go (suc i) e =
-              rw (to-at i (n + 1) (omega arith), own-at (suc i) n e, to-at (suc i) n e, line-at (suc i) n e) (next-line ending (opened-at i (omega arith)) (opened-at (suc i) (omega arith)))
+              let before : n + 1 - 1 ≡ n = omega arith in
+              let from = rw before at (next-at i (n + 1) (omega arith) (omega arith)) in
+              rw (from, own-at (suc i) n more e, next-at (suc i) n more e, line-at (suc i) n more e) (next-line ending (opened-at i (omega arith)) (opened-at (suc i) (omega arith)))
 
       -- the numbers of the open lines
       numbers-ranked : (n i : ℕ) → i + n ≡ count → numbersFrom lines n ≡ drop i (openLines s)
@@ -271,8 +274,7 @@ module _ (t : Table) (s : List ℕ) (long : length s ≡ choiceCount (t .variabl
       numbers-ranked zero i e =
           sym (drop-of-length-le (openLines s) {i = i} (omega (arith, open-counted, lines-length 0 s)))
       numbers-ranked (suc n) i e =
-          let at : suc n + 42 ≡ n + 43 = omega arith in
-          rw (at, line-at i n (omega arith), numbers-ranked n (suc i) (omega arith)) (sym (drop-cons (openLines s) i 0 (omega (arith, open-counted, lines-length 0 s))))
+          rw (line-at i (suc n) (omega arith) (omega arith), numbers-ranked n (suc i) (omega arith)) (sym (drop-cons (openLines s) i 0 (omega (arith, open-counted, lines-length 0 s))))
 
       pub open-ranked : openLines s ≡ numbersFrom lines count
       open-ranked = sym (numbers-ranked count 0 (omega arith))
@@ -353,7 +355,7 @@ module _ {s p : List ℕ} (passed : Passed s) (long : length p ≡ choiceCount (
           passing = priced-passing list (tableOf s) _ _ passing;
           few = passed-choices passed;
           layered = priced-layered list (tableOf s) (arranged .layered);
-          layer = λ n h. priced-line list (tableOf s) (layers-ranked (tableOf s) p long count numbers places lists room (ready .chosen) (arranged .ending) ranked n h);
+          layer = λ n more h. priced-line list (tableOf s) (layers-ranked (tableOf s) p long count numbers places lists room (ready .chosen) (arranged .ending) ranked n more h);
           priced = kits-ranked (tableOf s) p long count numbers places lists room (ready .chosen) (arranged .ending) ranked;
         };
         stands = record {
@@ -374,7 +376,7 @@ module _ {s p : List ℕ} (passed : Passed s) (long : length p ≡ choiceCount (
   first-room e = omega (arith, e, pow-mono {i = suc count} {j = 21} (omega (arith, ready .listed .0)))
 
 -- what the first visit leaves is what document 01's search does
-pub first-explored : {s p : List ℕ} → Passed s → (kits : List ℕ) → {percent budget least from counted : ℕ} {order cells marks cells′ marks′ best tally : List ℕ} → counted ≡ 0 → Visited (firstScene kits s p order percent budget least) from counted cells marks cells′ marks′ best tally → Explored (priced (take (length p) kits) (tableOf s)) percent budget least p best tally
+pub first-explored : {s p : List ℕ} → Passed s → (kits : List ℕ) → {percent budget least from counted : ℕ} {order cells marks cells′ marks′ best tally : List ℕ} → counted ≡ 0 → Visited (firstScene kits s p order percent budget least) from counted cells marks cells′ marks′ best tally → Searched (priced (take (length p) kits) (tableOf s)) percent budget least p best tally
 first-explored {s} {p} passed kits {percent} {budget} {least} {from} {counted} {order} e v =
     let list = take (length p) kits in
     let t = priced list (tableOf s) in

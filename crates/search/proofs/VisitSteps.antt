@@ -16,9 +16,10 @@ use Rattle.diagram.specs.Visits as visits
 use Rattle.diagram.specs.Visits.{lowestOpen}
 use Rattle.rule.specs.Rule.{Terms, terms, goesBack, worthwhile, rule}
 use Rattle.rule.proofs.Ruling.{rule-back, rule-full, rule-taken, rule-both, rule-visits}
-use Rattle.layers.specs.Layers.{Layers, passNodes, ownNodes, dropSum, leaveNodes, Enterable}
+use Rattle.layers.specs.Layers.{Layers, passNodes, ownNodes, dropSum, leaveNodes, LayerEnterable, LineLeavable}
 use Rattle.layers.specs.Flows.{Same}
 use Rattle.incumbent.specs.Ranks.{ranksOver}
+use Rattle.layers.specs.Lines.{firstRank, ownRank, nextRank, lineNumber, lineKits}
 use Rattle.search.specs.State.{Holds, Scene, Visitable, ruled, Visited}
 use Rattle.search.proofs.Tallying.{back-is, worth-is, counted-holds, kept-holds, kept-visits}
 use Rattle.search.proofs.Branching as branching
@@ -92,7 +93,7 @@ module _ {g : Scene} {l : Layers} {losses lines cells marks best tally : List �
         back-is counted (g .percent) (given .ground .passing) (g .plan) (given .stands .affords) (given .stands .bounded) test
 
     -- a visit that goes back
-    pub visit-back : r ≡ true → Visited g (getD lines n 0) (getD tally 2 0) cells marks cells marks best tally₁
+    pub visit-back : r ≡ true → Visited g (firstRank lines n) (getD tally 2 0) cells marks cells marks best tally₁
     visit-back back =
         let rules = rule-back (openCount (g .plan)) (parts g) (g .plan) found (back-test ∙ back) in
         record {
@@ -105,7 +106,7 @@ module _ {g : Scene} {l : Layers} {losses lines cells marks best tally : List �
 
     module _ (stays : r ≡ false) where
       -- a visit with no line open
-      pub visit-full : n ≡ 0 → {best′ tally′ : List ℕ} → best′ ≡ cond (ranksOver bound room marks (getD tally₁ 0 0) (getD tally₁ 1 0) best) marks best → tally′ ≡ cond (ranksOver bound room marks (getD tally₁ 0 0) (getD tally₁ 1 0) best) (set (set tally₁ 0 bound) 1 room) tally₁ → Visited g (getD lines n 0) (getD tally 2 0) cells marks cells marks best′ tally′
+      pub visit-full : n ≡ 0 → {best′ tally′ : List ℕ} → best′ ≡ cond (ranksOver bound room marks (getD tally₁ 0 0) (getD tally₁ 1 0) best) marks best → tally′ ≡ cond (ranksOver bound room marks (getD tally₁ 0 0) (getD tally₁ 1 0) best) (set (set tally₁ 0 bound) 1 room) tally₁ → Visited g (firstRank lines n) (getD tally 2 0) cells marks cells marks best′ tally′
       unfolding terms
       visit-full none eb et =
           let stands = given .stands in
@@ -122,7 +123,7 @@ module _ {g : Scene} {l : Layers} {losses lines cells marks best tally : List �
           }
 
   -- a visit of a plan that costs more than the budget
-  pub visit-over : room ≡ 0 → Visited g (getD lines n 0) (getD tally 2 0) cells marks cells marks best tally₁
+  pub visit-over : room ≡ 0 → Visited g (firstRank lines n) (getD tally 2 0) cells marks cells marks best tally₁
   visit-over over = visit-back {r = true} (rw over refl) refl
 
   -- ---------------------------------------------------------------------------
@@ -131,29 +132,29 @@ module _ {g : Scene} {l : Layers} {losses lines cells marks best tally : List �
   module _ (more : n ≡ 0 → ⊥) where
     -- its number, and where its layer, its own nodes, and what comes after them begin
     abbrev d : ℕ
-    d = getD lines (n + 42) 0
+    d = lineNumber lines n
 
     abbrev from : ℕ
-    from = getD lines n 0
+    from = firstRank lines n
 
     abbrev own : ℕ
-    own = getD lines (n + 21) 0
+    own = ownRank lines n
 
     abbrev to : ℕ
-    to = getD lines (n - 1) 0
+    to = nextRank lines n
 
     -- its layer may be entered
-    pub enter-ready : (1 ≤ n) × (n ≤ 20) × ((k : ℕ) × Enterable l losses k (getD lines n 0) (getD lines (n + 21) 0) (getD lines (n - 1) 0) cells)
+    pub enter-ready : LayerEnterable l losses lines n cells
     enter-ready =
         let few = branching.unsettled-few (given .ground) (given .stands) more in
         (few .0, few .1, (length (g .table .records), branching.enterable (given .ground) (given .stands) more (sizes .0)))
 
     -- it may be marked
-    mark-ready : (marks′ : List ℕ) → length marks′ ≡ 20 → (n ≤ 20) × (getD lines (n + 42) 0 < 20) × (length marks′ ≡ 20)
+    mark-ready : (marks′ : List ℕ) → length marks′ ≡ 20 → (n ≤ 20) × (lineNumber lines n < 20) × (length marks′ ≡ 20)
     mark-ready marks′ h =
         (branching.unsettled-few (given .ground) (given .stands) more .1, branching.line-few (given .ground) (given .stands) more, h)
 
-    pub take-ready : (n ≤ 20) × (getD lines (n + 42) 0 < 20) × (length marks ≡ 20)
+    pub take-ready : (n ≤ 20) × (lineNumber lines n < 20) × (length marks ≡ 20)
     take-ready = mark-ready marks (sizes .1)
 
     -- what leaving it loses is at most the bound
@@ -168,7 +169,7 @@ module _ {g : Scene} {l : Layers} {losses lines cells marks best tally : List �
     first = marked g d 1 (g .held)
 
     module _ {cells₁ marks₁ : List ℕ} (enter : cells₁ ≡ ownNodes l own (to - own) (passNodes l from (own - from) cells)) (take : marks₁ ≡ set marks d 1) where
-      first-given : Visitable first l losses lines cells₁ marks₁ best tally₁ (n - 1) (room - getD lines (n - 1 + 64) 0) bound
+      first-given : Visitable first l losses lines cells₁ marks₁ best tally₁ (n - 1) (room - lineKits lines (n - 1 + 1)) bound
       first-given =
           record {
             ground = marked-ground (given .ground) d 1 (g .held);
@@ -180,12 +181,12 @@ module _ {g : Scene} {l : Layers} {losses lines cells marks best tally : List �
       first-marks = rw (take, length-set marks d 1) (sizes .1)
 
       -- it may be visited
-      pub first-ready : getD tally 2 0 + 2 ^ suc n ≤ 2 ^ 63 → Ready l losses lines cells₁ marks₁ best tally₁ (n - 1) (room - getD lines (n - 1 + 64) 0) bound
+      pub first-ready : getD tally 2 0 + 2 ^ suc n ≤ 2 ^ 63 → Ready l losses lines cells₁ marks₁ best tally₁ (n - 1) (room - lineKits lines (n - 1 + 1)) bound
       first-ready fits =
           let long : length cells₁ ≡ 512 = rw enter (branching.entered-long (given .ground) (given .stands) more (sizes .0)) in
           ((long, first-marks, sizes .2, counted-size), ((first, first-given), rw (counted-visits, ← add-one) (room-first n (getD tally 2 0) more fits)))
 
-      module _ {cells₂ marks₂ best₂ tally₂ : List ℕ} (visited : (g : Scene) → Visitable g l losses lines cells₁ marks₁ best tally₁ (n - 1) (room - getD lines (n - 1 + 64) 0) bound → Visited g to (getD tally₁ 2 0) cells₁ marks₁ cells₂ marks₂ best₂ tally₂) where
+      module _ {cells₂ marks₂ best₂ tally₂ : List ℕ} (visited : (g : Scene) → Visitable g l losses lines cells₁ marks₁ best tally₁ (n - 1) (room - lineKits lines (n - 1 + 1)) bound → Visited g to (getD tally₁ 2 0) cells₁ marks₁ cells₂ marks₂ best₂ tally₂) where
         -- what its visit leaves
         first-left : Visited first to (getD tally₁ 2 0) cells₁ marks₁ cells₂ marks₂ best₂ tally₂
         first-left = visited first first-given
@@ -194,7 +195,7 @@ module _ {g : Scene} {l : Layers} {losses lines cells marks best tally : List �
         again-marks : length marks₂ ≡ 20
         again-marks = rw (first-left .kept) first-marks
 
-        pub again-ready : (n ≤ 20) × (getD lines (n + 42) 0 < 20) × (length marks₂ ≡ 20)
+        pub again-ready : (n ≤ 20) × (lineNumber lines n < 20) × (length marks₂ ≡ 20)
         again-ready = mark-ready marks₂ again-marks
 
         -- What the rule has then
@@ -216,7 +217,7 @@ module _ {g : Scene} {l : Layers} {losses lines cells marks best tally : List �
             count .0 ∙ ap suc (count .1)
 
         -- its layer may be left
-        pub leave-ready : (1 ≤ n) × (n ≤ 20) × (length cells₂ ≡ 512) × (getD lines (n + 21) 0 ≤ getD lines (n - 1) 0) × (getD lines (n - 1) 0 ≤ 254)
+        pub leave-ready : LineLeavable lines n cells₂
         leave-ready =
             let few = branching.unsettled-few (given .ground) (given .stands) more in
             let may = branching.leavable (given .ground) (given .stands) more in
@@ -280,7 +281,7 @@ module _ {g : Scene} {l : Layers} {losses lines cells marks best tally : List �
               second-left = visited-too second second-given
 
               -- the line may be marked again
-              pub open-ready : (n ≤ 20) × (getD lines (n + 42) 0 < 20) × (length marks₄ ≡ 20)
+              pub open-ready : (n ≤ 20) × (lineNumber lines n < 20) × (length marks₄ ≡ 20)
               open-ready = mark-ready marks₄ (rw (second-left .kept) second-long)
 
               -- what the rule has then

@@ -14,7 +14,10 @@ use Rattle.scoring.specs.declared.roots.Roots.{Roots}
 use Rattle.scoring.specs.Value.{place, highArc, lowArc}
 use Rattle.scoring.specs.Passes.{over, byNode, Decoded, RootsHeld, marksByPosition}
 use Rattle.rule.specs.Rule.{terms, rule}
+use Rattle.incumbent.specs.Tally.{cutoff, roomHeld, visitsCounted}
 use Rattle.layers.specs.Chains.{pick, joined, placed}
+use Rattle.layers.specs.Cells.{rootCell}
+use Rattle.layers.specs.Lines.{firstRank, ownRank, nextRank, lineNumber, lineKits}
 use Rattle.layers.specs.Layers.{Layers}
 use Rattle.layers.specs.Weighed.{Laid}
 use Rattle.layers.specs.Flows.{Layered, Line, Settles, Right, Same, rankSum, atSum}
@@ -59,16 +62,16 @@ priced kits t = record { variables = t .variables; records = t .records; kits = 
 
 -- What `line_ranks` writes for the first `count` lines of a list
 pub record Ranked (count : ℕ) (numbers places ends kits lines : List ℕ) : Type 0 where
-  pub first : getD lines count 0 ≡ 0
-  pub own : (i : ℕ) → i < count → getD lines (count - i + 21) 0 ≡ getD ends (getD places (getD numbers i 0) 0) 0
-  pub to : (i : ℕ) → i < count → getD lines (count - i - 1) 0 ≡ getD ends (getD places (getD numbers i 0) 0 + 1) 0
-  pub number : (i : ℕ) → i < count → getD lines (count - i + 42) 0 ≡ getD numbers i 0
-  pub priced : (i : ℕ) → i < count → getD lines (count - i + 63) 0 ≡ getD kits (getD numbers i 0) 0
+  pub first : firstRank lines count ≡ 0
+  pub own : (i : ℕ) → i < count → ownRank lines (count - i) ≡ getD ends (getD places (getD numbers i 0) 0) 0
+  pub next : (i : ℕ) → i < count → nextRank lines (count - i) ≡ getD ends (getD places (getD numbers i 0) 0 + 1) 0
+  pub number : (i : ℕ) → i < count → lineNumber lines (count - i) ≡ getD numbers i 0
+  pub priced : (i : ℕ) → i < count → lineKits lines (count - i) ≡ getD kits (getD numbers i 0) 0
 
 -- The numbers of the lowest n lines of which `lines` has the ranks
 unfoldable pub numbersFrom : (lines : List ℕ) → (n : ℕ) → List ℕ
 numbersFrom lines zero = []
-numbersFrom lines (suc n) = getD lines (suc n + 42) 0 ∷ numbersFrom lines n
+numbersFrom lines (suc n) = lineNumber lines (suc n) ∷ numbersFrom lines n
 
 -- ---------------------------------------------------------------------------
 -- What is held
@@ -78,13 +81,13 @@ numbersFrom lines (suc n) = getD lines (suc n + 42) 0 ∷ numbersFrom lines n
 pub record Holding (t : Table) (budget least : ℕ) (q best tally : List ℕ) : Type 0 where
   pub size : length q ≡ choiceCount (t .variables)
   pub plan : best ≡ padded q
-  pub scored : getD tally 0 0 ≡ scores.score t q
-  pub room : getD tally 1 0 ≡ budget + 1 - cost t q
+  pub scored : cutoff tally ≡ scores.score t q
+  pub room : roomHeld tally ≡ budget + 1 - cost t q
   pub within : cost t q ≤ budget
   pub passes : least ≤ scores.score t q
 
 pub record Holds (t : Table) (budget least : ℕ) (held : Option (List ℕ)) (best tally : List ℕ) : Type 0 where
-  pub nothing : held ≡ none → (getD tally 0 0 ≡ least) × (getD tally 1 0 ≡ 0)
+  pub nothing : held ≡ none → (cutoff tally ≡ least) × (roomHeld tally ≡ 0)
   pub something : (q : List ℕ) → held ≡ some q → Holding t budget least q best tally
 
 -- ---------------------------------------------------------------------------
@@ -107,8 +110,8 @@ pub record Ground (g : Scene) (l : Layers) (losses lines : List ℕ) : Type 0 wh
   pub passing : LeastPassing (g .table) (g .percent) (g .least)
   pub few : choiceCount (g .table .variables) ≤ 20
   pub layered : Layered (g .table) (g .start) (g .order) l losses
-  pub layer : (n : ℕ) → n < openCount (g .start) → Line (g .table) (g .start) (g .order) (getD lines (n + 1) 0) (getD lines (n + 22) 0) (getD lines n 0) (getD lines (n + 43) 0)
-  pub priced : (n : ℕ) → n < openCount (g .start) → getD lines (n + 64) 0 ≡ getD (g .table .kits) (getD lines (n + 43) 0) 0
+  pub layer : (n : ℕ) → 1 ≤ n → n ≤ openCount (g .start) → Line (g .table) (g .start) (g .order) (firstRank lines n) (ownRank lines n) (nextRank lines n) (lineNumber lines n)
+  pub priced : (n : ℕ) → 1 ≤ n → n ≤ openCount (g .start) → lineKits lines n ≡ getD (g .table .kits) (lineNumber lines n) 0
 
 -- What is handed to a visit: the plan's marks, its open lines, its room and its bound, and cells that are right before the lowest open line's layer
 pub record Stands (g : Scene) (lines cells marks : List ℕ) (unsettled room bound : ℕ) : Type 0 where
@@ -118,8 +121,8 @@ pub record Stands (g : Scene) (lines cells marks : List ℕ) (unsettled room bou
   pub few : unsettled ≤ openCount (g .start)
   pub affords : room ≡ g .budget + 1 - cost (g .table) (g .plan)
   pub bounded : bound ≡ upperBound (g .table) (g .plan)
-  pub right : Right (g .table) (g .start) (openTaken (g .plan)) (g .order) (getD lines unsettled 0) cells
-  pub rooted : getD cells 1 0 ≡ 1
+  pub right : Right (g .table) (g .start) (openTaken (g .plan)) (g .order) (firstRank lines unsettled) cells
+  pub rooted : getD cells rootCell 0 ≡ 1
 
 -- All that a visit is handed
 pub record Visitable (g : Scene) (l : Layers) (losses lines cells marks best tally : List ℕ) (unsettled room bound : ℕ) : Type 0 where
@@ -136,7 +139,7 @@ ruled g n =
 pub record Visited (g : Scene) (from counted : ℕ) (cells marks cells′ marks′ best′ tally′ : List ℕ) : Type 0 where
   pub sizes : (length cells′ ≡ 512) × (length best′ ≡ 20) × (length tally′ ≡ 3)
   pub holds : Holds (g .table) (g .budget) (g .least) (ruled g counted .held) best′ tally′
-  pub counts : getD tally′ 2 0 ≡ ruled g counted .visits
+  pub counts : visitsCounted tally′ ≡ ruled g counted .visits
   pub kept : marks′ ≡ marks
   pub same : Same from cells cells′
 
@@ -144,7 +147,7 @@ pub record Visited (g : Scene) (from counted : ℕ) (cells marks cells′ marks�
 abbrev pub VisitLeaves : Layers → (losses lines cells marks best tally : List ℕ) → (unsettled room bound : ℕ) → (cells′ marks′ best′ tally′ : List ℕ) → Type 0
 VisitLeaves l losses lines cells marks best tally unsettled room bound cells′ marks′ best′ tally′ =
     (g : Scene) → Visitable g l losses lines cells marks best tally unsettled room bound →
-    Visited g (getD lines unsettled 0) (getD tally 2 0) cells marks cells′ marks′ best′ tally′
+    Visited g (firstRank lines unsettled) (visitsCounted tally) cells marks cells′ marks′ best′ tally′
 
 -- ---------------------------------------------------------------------------
 -- The start and the end of a search
@@ -180,12 +183,12 @@ pub record Arranged (t : Table) (p : List ℕ) (bound : ℕ) (ends order : List 
   pub ending : Ending t order ends
 
 -- What a search from plan p leaves is document 01's
-pub record Explored (t : Table) (percent budget least : ℕ) (p best tally : List ℕ) : Type 0 where
+pub record Searched (t : Table) (percent budget least : ℕ) (p best tally : List ℕ) : Type 0 where
   pub holds : Holds t budget least (visits.visited t budget percent p .held) best tally
-  pub counts : getD tally 2 0 ≡ visits.visited t budget percent p .visits
+  pub counts : visitsCounted tally ≡ visits.visited t budget percent p .visits
 
 -- What a search of a file from a plan leaves held and counted, within limits whose least score passes at some percentage
 abbrev pub ExploredWithin : (file plan : List ℕ) → Limits → (best tally : List ℕ) → Type 0
 ExploredWithin file plan limits best tally =
     (percent : ℕ) → LeastPassing (tableOf file) percent (limits .least) →
-    Explored (priced (take (length plan) (limits .kits)) (tableOf file)) percent (limits .budget) (limits .least) plan best tally
+    Searched (priced (take (length plan) (limits .kits)) (tableOf file)) percent (limits .budget) (limits .least) plan best tally

@@ -4,12 +4,16 @@ use crate::lines::open_lines;
 use crate::visit::visit;
 use cost::cost_of;
 use cost::kits_of;
+use decoding::record_count;
+use decoding::variable_count;
 use diagram::Plan;
+use incumbent::CUTOFF;
+use incumbent::ROOM;
+use incumbent::VISITS;
+use layers::ROOT_CELL;
 use layers::lay_arcs;
 use layers::order_records;
 use layers::weigh_losses;
-use reading::record_count;
-use reading::variable_count;
 use scoring::Roots;
 use scoring::lay_out;
 use scoring::marks_by_position;
@@ -318,11 +322,11 @@ fn first_visit(
     let mut lines = [0u16; 84];
     line_ranks(open.count, &numbers, &places, ends, &kits, &mut lines);
     let mut cells = [0u64; 512];
-    cells[1] = 1;
+    cells[ROOT_CELL] = 1;
     let mut marks = start.marks;
-    tally[0] = limits.least;
-    tally[1] = 0;
-    tally[2] = 0;
+    tally[CUTOFF] = limits.least;
+    tally[ROOM] = 0;
+    tally[VISITS] = 0;
     visit(
         open.count,
         &lines,

@@ -10,6 +10,9 @@ use diagram::Refusal;
 use diagram::least_passing;
 use explore::explore;
 use explore::limits_of;
+use incumbent::CUTOFF;
+use incumbent::ROOM;
+use incumbent::VISITS;
 use reading::ReadAnswer;
 use requesting::accept;
 ghost use mathlib.Core.Path.{_≡_};
@@ -39,8 +42,8 @@ pub fn search(file: &[u8], plan: &[u8], budget: u32, percent: u32, out: &mut [u8
         &mut high,
         &mut low,
     ) {
-        ReadAnswer::Table(t) => t,
-        ReadAnswer::Refused(r) => return SearchAnswer::Refused(r),
+        RequestAnswer::Accepted(t) => t,
+        RequestAnswer::Refused(r) => return SearchAnswer::Refused(r),
     };
     let mut best = [0u8; 20];
     let mut tally = [0u64; 3];
@@ -55,7 +58,7 @@ pub fn search(file: &[u8], plan: &[u8], budget: u32, percent: u32, out: &mut [u8
         &mut best,
         &mut tally,
     );
-    if tally[1] == 0 {
+    if tally[ROOM] == 0 {
         return SearchAnswer::Refused(Refusal {
             number: 32,
             place: 0,
@@ -63,8 +66,8 @@ pub fn search(file: &[u8], plan: &[u8], budget: u32, percent: u32, out: &mut [u8
     }
     write(&best, out);
     SearchAnswer::Found(Finding {
-        score: tally[0],
-        visits: tally[2],
+        score: tally[CUTOFF],
+        visits: tally[VISITS],
     })
 }
 

@@ -3,10 +3,14 @@ use cost::wide;
 use diagram::Choice;
 use diagram::Plan;
 use diagram::Position;
+use layers::KITS;
+use layers::NUMBER;
+use layers::OWN;
 ghost use mathlib.Core.Path.{_≡_};
 ghost use Prim.Native.Nat.{ℕ, _+_, _≤_, _<_};
 ghost use lib.ListN.{length, getD, set, take};
 ghost use Rattle.diagram.specs.Plans as plans;
+ghost use Rattle.layers.specs.Lines.{lineNumber, lineKits};
 ghost use Rattle.search.specs.State.{rows, openLines, Ranked};
 
 // The numbers of the open lines, the lowest first.
@@ -34,9 +38,8 @@ pub fn open_lines(plan: Plan) -> Lines
     Lines { numbers, count }
 }
 
-// The ranks and the numbers of open lines, by how many lines are unsettled when the line is the lowest of them: at that place
-// the rank where its layer begins, 21 places on where its own nodes do, one place before where they end, 42 places on its number
-// and 63 places on its kits. The first layer begins at rank 0. `ends` has how many nodes stand before each position.
+// The ranks, the numbers and the kits of open lines, by how many lines are unsettled when the line is the lowest of them, as `layers`
+// reads them. The first layer begins at rank 0. `ends` has how many nodes stand before each position.
 pub fn line_ranks(
     count: usize,
     numbers: &[u8; 20],
@@ -55,10 +58,10 @@ pub fn line_ranks(
         let at = position_at(places, line);
         let x = at.number();
         let unsettled = count - i;
-        lines[unsettled + 21] = ends[x];
+        lines[unsettled + OWN] = ends[x];
         lines[unsettled - 1] = ends[x + 1];
-        lines[unsettled + 42] = numbers[i] as u16;
-        lines[unsettled + 63] = kits[line.number()];
+        lines[unsettled + NUMBER] = numbers[i] as u16;
+        lines[unsettled + KITS] = kits[line.number()];
         i += 1;
     }
 }
@@ -74,10 +77,10 @@ fn position_at(places: &[u64; 20], choice: Choice) -> Position
 
 // Marks the lowest of the unsettled lines.
 pub fn mark_line(lines: &[u16; 84], marks: &mut [u8; 20], unsettled: usize, mark: u8)
-    requires { ⌜ (unsettled ≤ 20) × (getD (now lines) (unsettled + 42) 0 < 20) × (length (now marks) ≡ 20) ⌝ }
-    ensures { λ _. ⌜ now (marks .exit) ≡ set (now (marks .entry)) (getD (now (lines .entry)) (unsettled + 42) 0) mark ⌝ }
+    requires { ⌜ (unsettled ≤ 20) × (lineNumber (now lines) unsettled < 20) × (length (now marks) ≡ 20) ⌝ }
+    ensures { λ _. ⌜ now (marks .exit) ≡ set (now (marks .entry)) (lineNumber (now (lines .entry)) unsettled) mark ⌝ }
 {
-    let line = Choice::new(lines[unsettled + 42] as u8);
+    let line = Choice::new(lines[unsettled + NUMBER] as u8);
     let i = line.number();
     marks[i] = mark;
 }
@@ -85,7 +88,8 @@ pub fn mark_line(lines: &[u16; 84], marks: &mut [u8; 20], unsettled: usize, mark
 // The kits of the line that has just been taken: of the lowest of the lines that were unsettled before.
 pub fn line_kits(lines: &[u16; 84], unsettled: usize) -> u64
     requires { ⌜ unsettled < 20 ⌝ }
-    ensures { λ r. ⌜ r ≡ getD (now (lines .entry)) (unsettled + 64) 0 ⌝ }
+    ensures { λ r. ⌜ r ≡ lineKits (now (lines .entry)) (unsettled + 1) ⌝ }
 {
-    wide(lines[unsettled + 64])
+    let before = unsettled + 1;
+    wide(lines[before + KITS])
 }

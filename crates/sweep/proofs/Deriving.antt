@@ -22,7 +22,7 @@ use Rattle.diagram.proofs.Places.{sequence-length, sequence-at}
 use Rattle.diagram.proofs.Locality.{position-less}
 use Rattle.diagram.proofs.FirstVariable.{scale-positive}
 use Rattle.diagram.proofs.Rising.{Monotone}
-use Rattle.implication.proofs.Pairing.{column-at}
+use Rattle.decoding.proofs.Columns.{column-at}
 use Rattle.scoring.specs.declared.roots.Roots.{Roots}
 use Rattle.scoring.specs.Value.{place, value, rootedSum, variableAt, markAt, highWeight, lowWeight}
 use Rattle.scoring.specs.Passes.{over, byNode, RootsHeld, highInForce, lowInForce, markAtNode, Arcs, passUp, Fits, Marked}
@@ -31,7 +31,7 @@ use Rattle.scoring.proofs.Over.{over-getD, over-sequence-at, over-at}
 use Rattle.scoring.proofs.Bounding.{top-fits}
 use Rattle.scoring.proofs.Passing.{choices-before, scale-drop-le, position-within, mark-at-node, high-in-force, low-in-force, passed-values, marked-fits}
 use Rattle.sweep.specs.Down.{dot, rootWeightsOf, RootFits, recordSum, passDown, Budget}
-use Rattle.sweep.specs.Drops.{Weighed, lossAt, opensAt, lossSum, Losing, isOf, shortfall, derivativeAt, Chosen}
+use Rattle.sweep.specs.Drops.{Weighed, lossAt, opensAt, lossSum, Losing, isOf, valueLoss, derivativeAt, Chosen}
 use Rattle.sweep.proofs.Transposing.{transposed}
 use Rattle.sweep.proofs.RootWeights.{root-weights-length, all-dot, root-weights-fit, held-rooted, root-weights-of}
 use Rattle.sweep.proofs.Leaving.{choices-later, mark-number, open-gains, left-step}
@@ -194,9 +194,9 @@ module _ {t : Table} {p : List ℕ} {n : ℕ} {ps hs ls ha la ms : List ℕ} (m 
 
         module _ (monotone : Monotone t) where
           -- an open line's drop is what its records fall short of, each times its node's weight
-          drop-is : (i : ℕ) → isOpen p i ≡ true → derivative t p i ≡ recordSum ds (shortfall t p i) n
+          drop-is : (i : ℕ) → isOpen p i ≡ true → derivative t p i ≡ recordSum ds (valueLoss t p i) n
           unfolding derivative upperBound
-          drop-is i o = rw o (omega (arith, top-is, summed (openTaken (set p i 2)) (shortfall t p i) (left-step t (m .formed) monotone (m .shares) p i o)))
+          drop-is i o = rw o (omega (arith, top-is, summed (openTaken (set p i 2)) (valueLoss t p i) (left-step t (m .formed) monotone (m .shares) p i o)))
 
   -- ---------------------------------------------------------------------------
   -- Records that are open at a position
@@ -247,9 +247,9 @@ module _ {t : Table} {p : List ℕ} {n : ℕ} {ps hs ls ha la ms : List ℕ} (m 
           let mark : markAtNode ps ms k ≡ 0 = mark-at-node m k h ∙ rw (mark-number t p k, at, c) (open-zero p _ o) in
           and-true-both _ _ (eq-eqb _ _ here) (eq-eqb _ _ mark))
 
-      -- what is lost at a record is its shortfall times the node's weight
-      loss-is : vs ≡ over (sequence (value t (openTaken p)) 0 (n + 2)) (replicate 256 0) → (k : ℕ) → k < n → cond (opensAt (lossesOf ps ls la ms vs ds) x k) (lossAt (lossesOf ps ls la ms vs ds) k) 0 ≡ getD ds (k + 2) 0 * shortfall t p (choiceCount (take x (t .variables))) k
-      unfolding lossAt shortfall
+      -- what is lost at a record is what its value loses times the node's weight
+      loss-is : vs ≡ over (sequence (value t (openTaken p)) 0 (n + 2)) (replicate 256 0) → (k : ℕ) → k < n → cond (opensAt (lossesOf ps ls la ms vs ds) x k) (lossAt (lossesOf ps ls la ms vs ds) k) 0 ≡ getD ds (k + 2) 0 * valueLoss t p (choiceCount (take x (t .variables))) k
+      unfolding lossAt valueLoss
       loss-is evs k h =
           let lo-less = m .formed .loLess k in
           let own = over-sequence-at (value t (openTaken p)) (replicate 256 0) (n + 2) (k + 2) (omega arith) in

@@ -11,8 +11,8 @@ use lib.ListN.{length, getD, set, replicate}
 use lib.Seq.{take-all}
 use Rattle.diagram.specs.Table.{tableOf, sequence, isChoice, choiceCount, variableCount}
 use Rattle.diagram.proofs.Places.{sequence-length, sequence-snoc}
-use Rattle.implication.proofs.Choosing.{variables-length}
-use Rattle.implication.proofs.Pairing.{variable-at}
+use Rattle.decoding.proofs.Choosing.{variables-length}
+use Rattle.decoding.proofs.Choosing.{variable-at}
 use Rattle.reading.proofs.Counting.{first, next, choice-more, choice-same}
 use Rattle.scoring.specs.Passes.{over}
 use Rattle.scoring.proofs.Over.{over-next}

@@ -23,7 +23,7 @@ use Rattle.diagram.proofs.FirstVariable.{total-nil, total-choice, total-chance,
 use Rattle.diagram.proofs.Rising.{Monotone, lo-hi}
 use Rattle.scoring.specs.Value.{place, marksFrom, valueFrom, value, variableAt, markAt, highShare, lowShare, highWeight, lowWeight, highArc, lowArc}
 use Rattle.scoring.proofs.Values.{value-skip, value-step}
-use Rattle.sweep.specs.Drops.{isOf, shortfall}
+use Rattle.sweep.specs.Drops.{isOf, valueLoss}
 
 -- ---------------------------------------------------------------------------
 -- Sums
@@ -228,9 +228,9 @@ module _ (t : Table) (formed : Formed (length (t .variables)) (t .records)) (mon
     unfolding isOf
     open-gains k e = rw (open-value k e) (low-le-high t formed monotone shares (openTaken p) k (both (isChoice (variableAt t k)) e .0))
 
-    -- with choice i left, every value and its shortfall come by the weights of the plan with all open lines taken
-    pub left-step : (k : ℕ) → value t (openTaken (set p i 2)) (k + 2) + shortfall t p i k ≡ highWeight t (openTaken p) k * value t (openTaken (set p i 2)) (recordAt (t .records) k .hi) + lowWeight t (openTaken p) k * value t (openTaken (set p i 2)) (recordAt (t .records) k .lo)
-    unfolding isOf shortfall
+    -- with choice i left, every value and what it loses come by the weights of the plan with all open lines taken
+    pub left-step : (k : ℕ) → value t (openTaken (set p i 2)) (k + 2) + valueLoss t p i k ≡ highWeight t (openTaken p) k * value t (openTaken (set p i 2)) (recordAt (t .records) k .hi) + lowWeight t (openTaken p) k * value t (openTaken (set p i 2)) (recordAt (t .records) k .lo)
+    unfolding isOf valueLoss
     left-step k = rw (openTaken-set p i) (go (isOf t i k) refl)
       where
         go : (b : Bool) → isOf t i k ≡ b → value t (set (openTaken p) i 2) (k + 2) + cond b (value t (openTaken p) (k + 2) - lowArc t k * value t (openTaken p) (recordAt (t .records) k .lo)) 0 ≡ highWeight t (openTaken p) k * value t (set (openTaken p) i 2) (recordAt (t .records) k .hi) + lowWeight t (openTaken p) k * value t (set (openTaken p) i 2) (recordAt (t .records) k .lo)

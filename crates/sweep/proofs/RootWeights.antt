@@ -15,12 +15,13 @@ use lib.Seq.{take-all, getD-set-same, getD-set-other}
 use borrow.Author.Tests.{eq-eqb, ne-eqb}
 use Rattle.diagram.specs.Table.{Table}
 use Rattle.diagram.specs.Score.{rewarded}
-use Rattle.reading.specs.Roots.{rootAt}
-use Rattle.reading.proofs.Rooting.{rewarded-next, rewarded-part}
+use Rattle.decoding.specs.Decoding.{rootAt}
+use Rattle.decoding.proofs.Rooting.{rewarded-next, rewarded-part}
 use Rattle.scoring.specs.declared.roots.Roots.{Roots}
 use Rattle.scoring.specs.Value.{place, gap, rootedSum}
 use Rattle.scoring.specs.Passes.{RootsHeld}
-use Rattle.sweep.specs.Down.{dot, added, rootWeights, rootWeightsOf, rootWeight, Rooted}
+use Rattle.sweep.specs.Down.{dot, added, rootWeights, rootWeightsOf, rootWeight}
+use Rattle.decoding.specs.Decoding.{Rooted}
 use Rattle.sweep.proofs.Transposing.{added-length, dot-added, dot-zeros, dot-term}
 
 pub root-weights-length : (t : Table) (i : ℕ) (ws : List ℕ) → length (rootWeights t i ws) ≡ length ws

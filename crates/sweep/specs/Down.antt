@@ -6,7 +6,7 @@ use mathlib.Core.List.{List}
 use lib.ListN.{length, getD, set}
 use lib.Dec.{eqb}
 use Rattle.diagram.specs.Table.{Table}
-use Rattle.reading.specs.Roots.{rootAt}
+use Rattle.decoding.specs.Decoding.{rootAt}
 use Rattle.scoring.specs.declared.roots.Roots.{Roots}
 use Rattle.scoring.specs.Value.{place, gap}
 use Rattle.scoring.specs.Passes.{Arcs}
@@ -50,11 +50,6 @@ rootWeight t m zero = 0
 rootWeight t m (suc i) =
     rootWeight t m i
     + cond (eqb (rootAt (t .roots) i .node) m) (rootAt (t .roots) i .reward * gap t 0 (place t (rootAt (t .roots) i .node))) 0
-
--- Every root is a record's node
-abbrev pub Rooted : Table → Type 0
-Rooted t =
-    (i : ℕ) → i < length (t .roots) → (2 ≤ rootAt (t .roots) i .node) × (rootAt (t .roots) i .node < length (t .records) + 2)
 
 -- Node m hands its weight on to its two children
 unfoldable pub handOn : Arcs → (m : ℕ) → (weights : List ℕ) → List ℕ

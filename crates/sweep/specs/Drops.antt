@@ -52,8 +52,8 @@ isOf t i k =
     isChoice (variableAt t k) && eqb (choiceCount (take (recordAt (t .records) k .position) (t .variables))) i
 
 -- What leaving choice i loses of record k's value
-unfoldable pub shortfall : Table → (plan : List ℕ) → (i k : ℕ) → ℕ
-shortfall t p i k =
+unfoldable pub valueLoss : Table → (plan : List ℕ) → (i k : ℕ) → ℕ
+valueLoss t p i k =
     cond (isOf t i k) (value t (openTaken p) (k + 2) - lowArc t k * value t (openTaken p) (recordAt (t .records) k .lo)) 0
 
 -- ---------------------------------------------------------------------------

@@ -3,7 +3,7 @@ use crate::down::enter;
 use crate::down::pass_down;
 use crate::drops::by_choice;
 use crate::drops::drops_by_position;
-use reading::record_count;
+use decoding::record_count;
 use scoring::Roots;
 use scoring::in_force;
 use scoring::lay_out;

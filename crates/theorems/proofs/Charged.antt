@@ -10,7 +10,7 @@ use lib.Dec.{eqb}
 use Rattle.diagram.specs.Table.{sequence, tableOf, choiceCount}
 use Rattle.diagram.specs.Score.{sum}
 use Rattle.diagram.specs.Plans.{cost, costOf, countOf}
-use Rattle.cost.proofs.Kits.{kits-length, kits-held, kits-unit}
+use Rattle.decoding.proofs.Kits.{kits-length, kits-held, kits-unit}
 use Rattle.theorems.specs.Kits.{KitsAreHeld, CostIsTheSum, linesTaken, UnitKits, KeepsMeaning}
 
 pub kits-are-held : KitsAreHeld

@@ -14,8 +14,8 @@ use Rattle.diagram.specs.Table.{Variable, Record, Root, Table, sequence, variab
 use Rattle.diagram.specs.Score.{sum, total, scoreFrom, rewarded, score}
 use Rattle.diagram.proofs.FirstVariable.{score-le-scale}
 use Rattle.diagram.proofs.Checked.{read-passed}
-use Rattle.implication.proofs.Choosing.{variables-length}
-use Rattle.reading.proofs.Rooting.{roots-none, roots-words}
+use Rattle.decoding.proofs.Choosing.{variables-length}
+use Rattle.decoding.proofs.Rooting.{roots-none, roots-words}
 use Rattle.reading.proofs.Accepted.{passed-shares}
 use Rattle.theorems.specs.Reasons.{tableLength, headingWord, wordCount, variableWord, choiceLimit, scaleLimit, recordWord, rootWord, rewardLimit, notMonotone, RootWord, Wrong, WholeTable, no-row, passes-row, fileReasons, fileAlone, Accepted}
 use Rattle.theorems.specs.Roots.{rootWordAt, RootsAreHeld, ScaleIsTheProduct, ScoreWithinScale, SameNetwork, ServedAlike, OneRoot, NamesLast, LastIsRoot, Reordered, nothing, first-kept, exchanged, in-steps, rootWords, OtherOrder, OrderIsFree, AddsRewards, TwiceIsAdded, AnswerAlike, ReadByScores, withRoots, RootsAreAdded}

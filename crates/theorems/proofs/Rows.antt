@@ -21,7 +21,7 @@ use Rattle.diagram.specs.Checks.{placeZero, firstPlace, isHeading, isVariableWo
 use Rattle.diagram.proofs.Every.{both, and-true-both, every-append, every-map, each-assignment, implied, implication}
 use Rattle.diagram.proofs.Places.{none-at}
 use Rattle.diagram.proofs.Checked.{Passed}
-use Rattle.implication.proofs.Shape.{none-passes, shaped-record-word}
+use Rattle.decoding.proofs.Shape.{none-passes, shaped-record-word}
 use Rattle.reading.proofs.Accepted.{passed-choices, passed-product, passed-scale}
 use Rattle.theorems.specs.Reasons.{Request, Reason, jobWord, tableLength, headingWord, wordCount, variableWord, choiceLimit, scaleLimit, recordWord, rootWord, rewardLimit, notMonotone, planLength, planMark, fullPlanMark, percentLimit, budgetLimit, bufferLength, HeadingWord, ChoiceWord, ChanceWord, Child, RecordWord, RootWord, MonotoneAt, Wrong, WholeTable}
 use Rattle.theorems.proofs.Saying.{Says, says-less, says-most, says-same, in-words, says-not, says-both, says-either, says-then}

@@ -14,28 +14,28 @@ use Rattle.scoring.proofs.score.Statement.{statement}
 use Rattle.scoring.proofs.score.Tie as tie
 
 -- what is known once reading has answered, and what is found of the plan
-file-read : (c : tie.After-check-full-plan) → let start = c .before .before .before .before .before .before .before .before .before .before in readOutcome (start .args .file .now) ≡ answered (reading (start .args .file .now))
+file-read : (c : tie.After-check-full-plan) → let start = c .before .before .before .before .before .before .before .before in readOutcome (start .args .file .now) ≡ answered (reading (start .args .file .now))
 file-read c =
-    let k = c .before in
-    table-read _ (k .before .before .before .read-records .ensures .0) _ (k .before .t .given .1)
+    let k = c .before .before in
+    table-read _ (k .before .before .before .read-table .ensures .outcome) _ (k .before .answer .given .1)
 
-plan-found : (c : tie.After-check-full-plan) → let start = c .before .before .before .before .before .before .before .before .before .before in c .check-full-plan .result ≡ finding (fullPlanChecks (start .args .plan .now)) (start .args .file .now)
+plan-found : (c : tie.After-check-full-plan) → let start = c .before .before .before .before .before .before .before .before in c .check-full-plan .result ≡ finding (fullPlanChecks (start .args .plan .now)) (start .args .file .now)
 plan-found c =
-    let k = c .before in
-    c .check-full-plan .ensures _ (table-choices _ (k .before .before .before .read-records .ensures .0) _ (k .before .t .given .1))
+    let k = c .before .before in
+    c .check-full-plan .ensures _ (table-choices _ (k .before .before .before .read-table .ensures .outcome) _ (k .before .answer .given .1))
 
-read-records-requires : tie.Need-read-records-requires
-read-records-requires c κs = search needs
+read-table-requires : tie.Need-read-table-requires
+read-table-requires c κs = search needs
 
-enum-known-t : tie.Need-enum-known-t
-enum-known-t c = search needs
+enum-known-answer : tie.Need-enum-known-answer
+enum-known-answer c = search needs
 
-enum-known-r : tie.Need-enum-known-r
-enum-known-r c = search needs
+enum-known-answer-2 : tie.Need-enum-known-answer-2
+enum-known-answer-2 c = search needs
 
 returns : tie.Need-returns
 unfolding outcomeOf
-returns c = score-refused _ _ _ _ (refused-read _ (c .before .before .before .read-records .ensures .0) _ (c .before .r .given .1))
+returns c = score-refused _ _ _ _ (refused-read _ (c .before .before .before .read-table .ensures .outcome) _ (c .before .answer2 .given .1))
 
 check-full-plan-requires : tie.Need-check-full-plan-requires
 check-full-plan-requires c κs = search needs
@@ -43,23 +43,25 @@ check-full-plan-requires c κs = search needs
 enum-told : tie.Need-enum-told
 enum-told c = search needs
 
-enum-known-r-2 : tie.Need-enum-known-r-2
-enum-known-r-2 c = search needs
+enum-known-r : tie.Need-enum-known-r
+enum-known-r c = search needs
 
 upper-bound-requires : tie.Need-upper-bound-requires
 upper-bound-requires c κs =
-    let match = c .before .before .before in
+    let match = c .before .before .before .before in
     let at = match .before .before in
+    let k = at .before .before in
     let passes = match .enum-told .given .1 in
-    let read = at .before .before .before .before .read-records .ensures in
+    let read = k .before .before .before .read-table .ensures in
+    let table = read .accepted _ (k .before .answer .given .1) in
     let long = plan-long _ _ (plan-found at) passes in
     let legal = full-legal _ _ (plan-full _ _ (plan-found at) passes) in
-    (table-passed _ (read .0) _ (at .before .before .t .given .1), ((long, legal), decoded-read _ _ _ (file-read at) (read .1)))
+    (table-passed _ (read .outcome) _ (k .before .answer .given .1), ((long, legal), decoded-read (table .0) (table .1 .held)))
 
 returns-2 : tie.Need-returns-2
 unfolding outcomeOf
 returns-2 c =
-    let match = c .before .before .before .before in
+    let match = c .before .before .before .before .before in
     let at = match .before .before in
     score-answered _ _ (plan-found at) (file-read at) (match .enum-told .given .1) _ (c .upper-bound .ensures)
 
@@ -67,19 +69,19 @@ returns-3 : tie.Need-returns-3
 unfolding outcomeOf
 returns-3 c =
     let at = c .before .before .before in
-    score-turned _ _ (plan-found at) (file-read at) _ (c .before .r2 .given .1)
+    score-turned _ _ (plan-found at) (file-read at) _ (c .before .r .given .1)
 
 pub score-spec : {M : Type 1} → statement M
 score-spec =
     tie.close
     (tie.spec
-    read-records-requires
-    enum-known-t
-    enum-known-r
+    read-table-requires
+    enum-known-answer
+    enum-known-answer-2
     returns
     check-full-plan-requires
     enum-told
     upper-bound-requires
-    enum-known-r-2
+    enum-known-r
     returns-2
     returns-3)

@@ -12,8 +12,8 @@ use Rattle.reading.proofs.Accepted.{passed-scale, passed-choices}
 use Rattle.scoring.proofs.Requests.{decoded-read}
 use Rattle.requesting.specs.Request.{requestOutcome}
 use Rattle.requesting.proofs.Requests.{Proper, refused-request, accepted-request, accepted-proper, accepted-scale}
-use Rattle.cost.proofs.Kits.{kits-length, kits-first}
-use Rattle.search.specs.State.{Explored}
+use Rattle.decoding.proofs.Kits.{kits-length, kits-first}
+use Rattle.search.specs.State.{Searched}
 use Rattle.search.proofs.Priced.{priced-own}
 use Rattle.search.proofs.Answering.{search-turned, search-32, held-long, search-found}
 use Rattle.search.proofs.search.Statement.{statement}
@@ -40,10 +40,10 @@ least : (c : tie.After-limits-of) →
 least c = rw (c .limits-of .ensures .2) (c .before .least-passing .ensures _ (request-scale (c .before .before)))
 
 -- what the visits hold and have counted
-explored : (c : tie.After-explore) →
+searched : (c : tie.After-explore) →
     let a = c .before .before .before .before .before .before .before .before .before .before .before .before .before .before .before .before .before .before .args in
-    Explored (tableOf (a .file .now)) (a .percent) (a .budget) (c .before .before .before .before .before .before .limits-of .result .least) (a .plan .now) (c .explore .last .1 .1 .1 .1 .1 .1 .0) (c .explore .last .1 .1 .1 .1 .1 .1 .1 .0)
-explored c =
+    Searched (tableOf (a .file .now)) (a .percent) (a .budget) (c .before .before .before .before .before .before .limits-of .result .least) (a .plan .now) (c .explore .last .1 .1 .1 .1 .1 .1 .0) (c .explore .last .1 .1 .1 .1 .1 .1 .1 .0)
+searched c =
     let limits = c .before .before .before .before .before .before in
     let ok = request-proper (limits .before .before) in
     rw (limits .limits-of .ensures .0, limits .limits-of .ensures .1, kits-first _ _ (ok .long), priced-own) at (c .explore .ensures _ (least limits))
@@ -91,13 +91,13 @@ array-read-if1 c = search needs
 returns-2 : tie.Need-returns-2
 returns-2 c =
     let a = c .before .before .before .before .before .before .before .before .before .before .before .before .before .before .before .before .before .before .before .args in
-    search-32 (a .file .now) (a .plan .now) (a .out .now) (a .budget) (a .percent) (numbers (c .before .before .before .before .before .before .before .before .before .before .t .given .0 .0)) (request-answered (c .before .before .before .before .before .before .before .before .before)) (explored (c .before)) (c .if1 .taken) refl refl
+    search-32 (a .file .now) (a .plan .now) (a .out .now) (a .budget) (a .percent) (numbers (c .before .before .before .before .before .before .before .before .before .before .t .given .0 .0)) (request-answered (c .before .before .before .before .before .before .before .before .before)) (searched (c .before)) (c .if1 .taken) refl refl
 
 write-requires : tie.Need-write-requires
 write-requires c κs =
     let told = c .before .before .before .before .before .before .before .before .before .before .before in
     let ok = request-proper told in
-    (held-long _ _ (c .before .before .before .before .before .before .before .before .before .before .before .before .before .before .before .before .before .before .before .before .before .args .out .now) _ _ _ (request-answered told) (explored (c .before .before .before)) (c .before .before .if1 .left), omega (arith, ok .sized, passed-choices (ok .passed)))
+    (held-long _ _ (c .before .before .before .before .before .before .before .before .before .before .before .before .before .before .before .before .before .before .before .before .before .args .out .now) _ _ _ (request-answered told) (searched (c .before .before .before)) (c .before .before .if1 .left), omega (arith, ok .sized, passed-choices (ok .passed)))
 
 array-read-t21 : tie.Need-array-read-t21
 array-read-t21 c = search needs
@@ -111,7 +111,7 @@ same-length c = search needs
 returns-3 : tie.Need-returns-3
 returns-3 c =
     let a = c .before .before .before .before .before .before .before .before .before .before .before .before .before .before .before .before .before .before .before .before .before .before .before .before .args in
-    search-found (a .file .now) (a .plan .now) (a .out .now) (a .budget) (a .percent) (numbers (c .before .before .before .before .before .before .before .before .before .before .before .before .before .before .before .t .given .0 .0)) (request-answered (c .before .before .before .before .before .before .before .before .before .before .before .before .before .before)) (explored (c .before .before .before .before .before .before)) (c .before .before .before .before .before .if1 .left) (c .before .before .write .ensures) refl refl
+    search-found (a .file .now) (a .plan .now) (a .out .now) (a .budget) (a .percent) (numbers (c .before .before .before .before .before .before .before .before .before .before .before .before .before .before .before .t .given .0 .0)) (request-answered (c .before .before .before .before .before .before .before .before .before .before .before .before .before .before)) (searched (c .before .before .before .before .before .before)) (c .before .before .before .before .before .if1 .left) (c .before .before .write .ensures) refl refl
 
 pub search-spec : {M : Type 1} → statement M
 search-spec =

@@ -3,13 +3,15 @@
 use Prim.Native.Nat.{_+_, _-_}
 use native.Mathlib.Omega.{arith}
 use mathlib.Core.Path.{_≡_, refl, ap, sym, _∙_}
+use lib.ListN.{length}
 use lib.Dec.{eqb}
 use borrow.Author.Needs.{needs}
-use Rattle.diagram.specs.Table.{variableCount, recordCount}
-use Rattle.diagram.specs.Checks.{firstPlace, monotoneFault}
+use Rattle.diagram.specs.Checks.{firstPlace}
 use Rattle.diagram.proofs.Places.{place-start, place-here, place-next, place-end}
+use Rattle.decoding.specs.Decoding.{tableIn}
+use Rattle.decoding.proofs.Standing.{variables-in, records-in}
+use Rattle.implication.specs.Nodes.{monotoneFaultIn, cell, Stack}
 use Rattle.steps.specs.Steps.{faultOf}
-use Rattle.implication.specs.Nodes.{cell, Stack}
 use Rattle.steps.specs.declared.verdict.Fault.the-variants.{At}
 use Rattle.implication.proofs.Cells.{tested-one, tested-zero}
 use Rattle.implication.proofs.Pairing.{unmonotone-at, unmonotone-test}
@@ -17,33 +19,28 @@ use Rattle.implication.proofs.monotone.first_fault.Statement.{statement
 use Rattle.implication.proofs.monotone.first_fault.Tie as tie
 
 abbrev Inv-loop : tie.InvT-loop
-Inv-loop file met₀ firsts₀ seconds₀ positions high low end n k₀ met firsts seconds k =
-    (end .0 ≡ variableCount file)
-    × (n ≡ recordCount file)
-    × Stack positions high low met firsts seconds 0 0 0 0 0
-    × (monotoneFault file ≡ firstPlace (unmonotone-at file) (1 + variableCount file + k) (recordCount file - k))
+Inv-loop t met₀ firsts₀ seconds₀ end n k₀ met firsts seconds k =
+    (end .0 ≡ length (tableIn t .variables))
+    × (n ≡ length (tableIn t .records))
+    × Stack (t .positions) (t .high) (t .low) met firsts seconds 0 0 0 0 0
+    × (monotoneFaultIn (tableIn t) ≡ firstPlace (unmonotone-at (tableIn t)) (1 + length (tableIn t .variables) + k) (length (tableIn t .records) - k))
 
 abbrev μ-loop : tie.MeasureT-loop
-μ-loop file met₀ firsts₀ seconds₀ positions high low end n k₀ met firsts seconds k = n - k
-
-variable-count-requires : tie.Need-variable-count-requires Inv-loop μ-loop
-variable-count-requires c κs = search needs
+μ-loop t met₀ firsts₀ seconds₀ end n k₀ met firsts seconds k = n - k
 
 new-requires : tie.Need-new-requires Inv-loop μ-loop
 new-requires c κs = search needs
 
-record-count-requires : tie.Need-record-count-requires Inv-loop μ-loop
-record-count-requires c κs = search needs
-
 loop-holds : tie.Need-loop-holds Inv-loop μ-loop
-unfolding monotoneFault
+unfolding monotoneFaultIn
 loop-holds c =
-    let start = c .before .before .before .before in
-    let s = start .args .file .now in
-    (c .before .new .ensures ∙ c .before .before .variable-count .ensures .0, c .record-count .ensures .0, start .pre .1, place-start (unmonotone-at s) (1 + variableCount s) (recordCount s))
+    let start = c .before in
+    let d = start .args .t in
+    let t = tableIn d in
+    (c .new .ensures ∙ sym (variables-in d), sym (records-in d), start .pre .1, place-start (unmonotone-at t) (1 + length (t .variables)) (length (t .records)))
 
 explore-record-requires : tie.Need-explore-record-requires Inv-loop μ-loop
-explore-record-requires c κs = (c .before .before .before .before .before .before .before .before .before .pre .0, omega arith, c .before .before .before .before .loop .inv .2)
+explore-record-requires c κs = (c .before .before .before .before .before .before .pre .0, omega arith, c .before .before .before .before .loop .inv .2)
 
 new-requires-2 : tie.Need-new-requires-2 Inv-loop μ-loop
 new-requires-2 c κs = search needs
@@ -61,17 +58,19 @@ is-met-requires c κs = search needs
 word-requires : tie.Need-word-requires Inv-loop μ-loop
 word-requires c κs = search needs
 
-add-t22 : tie.Need-add-t22 Inv-loop μ-loop
-add-t22 c = omega arith
+add-t18 : tie.Need-add-t18 Inv-loop μ-loop
+add-t18 c = omega (arith, c .before .before .before .before .before .before .before .before .before .before .before .before .before .pre .0 .most)
 
 returns : tie.Need-returns Inv-loop μ-loop
 unfolding faultOf
 returns c =
     let at = c .before .before .before .before .before .before .before .before .before .before .before .loop in
-    let s = c .before .before .before .before .before .before .before .before .before .before .before .before .before .before .before .before .args .file .now in
-    let place : c .word .result + at .k ≡ 1 + variableCount s + at .k = omega (arith, c .word .ensures) in
+    let t = tableIn (c .before .before .before .before .before .before .before .before .before .before .before .before .before .args .t) in
+    let v = length (t .variables) in
+    let n = length (t .records) in
+    let place : c .word .result + at .k ≡ 1 + v + at .k = omega (arith, c .word .ensures, at .inv .0) in
     let fault = sym (c .before .before .before .before .before .before .explore-record .ensures .fault (tested-one _ 1 0 (ends (c .before .before)) (c .before .if1 .taken))) in
-    rw (at .inv .3, place-here (unmonotone-at s) (1 + variableCount s) (recordCount s) (at .k) (omega arith) (unmonotone-test s (at .k) fault)) (ap At place)
+    rw (at .inv .3, place-here (unmonotone-at t) (1 + v) n (at .k) (omega (arith, at .inv .1)) (unmonotone-test t (at .k) fault)) (ap At place)
 
 add-k : tie.Need-add-k Inv-loop μ-loop
 add-k c = omega arith
@@ -82,16 +81,17 @@ loop-less c = omega arith
 loop-again : tie.Need-loop-again Inv-loop μ-loop
 loop-again c =
     let at = c .before .before .before .before .before .before .before .before .before .before .loop in
-    let s = c .before .before .before .before .before .before .before .before .before .before .before .before .before .before .before .args .file .now in
+    let t = tableIn (c .before .before .before .before .before .before .before .before .before .before .before .before .args .t) in
     let zero = tested-zero _ 1 0 (ends (c .before)) (c .if1 .left) in
     let passes = c .before .before .before .before .before .explore-record .ensures .passes (λ one. omega (arith, zero, one)) in
-    (at .inv .0, at .inv .1, passes .1, at .inv .3 ∙ place-next (unmonotone-at s) (1 + variableCount s) (recordCount s) (at .k) (omega arith) (unmonotone-test s (at .k) (sym (passes .0))))
+    (at .inv .0, at .inv .1, passes .1, at .inv .3 ∙ place-next (unmonotone-at t) (1 + length (t .variables)) (length (t .records)) (at .k) (omega (arith, at .inv .1)) (unmonotone-test t (at .k) (sym (passes .0))))
 
 returns-2 : tie.Need-returns-2 Inv-loop μ-loop
 unfolding faultOf
 returns-2 c =
-    let s = c .before .before .before .before .before .before .args .file .now in
-    rw (c .before .loop .inv .3, place-end (unmonotone-at s) (1 + variableCount s + c .before .loop .k) (recordCount s) (c .before .loop .k) (omega arith))
+    let at = c .before .loop in
+    let t = tableIn (c .before .before .before .args .t) in
+    rw (at .inv .3, place-end (unmonotone-at t) (1 + length (t .variables) + at .k) (length (t .records)) (at .k) (omega (arith, at .inv .1)))
 
 pub first-fault-spec : {M : Type 1} → statement M
 first-fault-spec =
@@ -99,16 +99,14 @@ first-fault-spec =
     (tie.spec
     Inv-loop
     μ-loop
-    variable-count-requires
     new-requires
-    record-count-requires
     loop-holds
     explore-record-requires
     new-requires-2
     new-requires-3
     is-met-requires
     word-requires
-    add-t22
+    add-t18
     returns
     add-k
     loop-less

@@ -9,7 +9,7 @@ use Rattle.implication.proofs.monotone.monotone_fault.Tie as tie
 
 first-fault-requires : tie.Need-first-fault-requires
 first-fault-requires c κs =
-    let h = c .before .before .before .before .pre in
+    let h = c .before .before .before .pre in
     (h, start (held-pairs h) refl (search needs) (search needs))
 
 returns : tie.Need-returns

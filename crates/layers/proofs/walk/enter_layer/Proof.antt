@@ -5,14 +5,14 @@ use Rattle.layers.proofs.Walking.{passed-length}
 use Rattle.layers.proofs.walk.enter_layer.Statement.{statement}
 use Rattle.layers.proofs.walk.enter_layer.Tie as tie
 
-mul-from : tie.Need-mul-from
-mul-from c = search needs
+mul-first : tie.Need-mul-first
+mul-first c = search needs
 
-element-copy-out-from : tie.Need-element-copy-out-from
-element-copy-out-from c = search needs
+element-copy-out-first : tie.Need-element-copy-out-first
+element-copy-out-first c = search needs
 
-cast-from : tie.Need-cast-from
-cast-from c = search needs
+cast-first : tie.Need-cast-first
+cast-first c = search needs
 
 add-own : tie.Need-add-own
 add-own c = search needs
@@ -26,25 +26,25 @@ element-copy-out-own c = search needs
 cast-own : tie.Need-cast-own
 cast-own c = search needs
 
-sub-to : tie.Need-sub-to
-sub-to c = search needs
+sub-next : tie.Need-sub-next
+sub-next c = search needs
 
-mul-to : tie.Need-mul-to
-mul-to c = search needs
+mul-next : tie.Need-mul-next
+mul-next c = search needs
 
-element-copy-out-to : tie.Need-element-copy-out-to
-element-copy-out-to c = search needs
+element-copy-out-next : tie.Need-element-copy-out-next
+element-copy-out-next c = search needs
 
-cast-to : tie.Need-cast-to
-cast-to c = search needs
+cast-next : tie.Need-cast-next
+cast-next c = search needs
 
 pass-requires : tie.Need-pass-requires
 pass-requires c κs =
     let pre = c .before .before .before .before .pre in
     let layer = pre .2 .1 in
     let own = layer .bounds .1 in
-    let to = layer .bounds .2 in
-    (layer .bounds .0, layer .long, (pre .2 .0, layer .sized, le-trans own to, layer .passes))
+    let next = layer .bounds .2 in
+    (layer .bounds .0, layer .long, (pre .2 .0, layer .sized, le-trans own next, layer .passes))
 
 enter-requires : tie.Need-enter-requires
 enter-requires c κs =
@@ -65,17 +65,17 @@ pub enter-layer-spec : {M : Type 1} → statement M
 enter-layer-spec =
     tie.close
     (tie.spec
-    mul-from
-    element-copy-out-from
-    cast-from
+    mul-first
+    element-copy-out-first
+    cast-first
     add-own
     mul-own
     element-copy-out-own
     cast-own
-    sub-to
-    mul-to
-    element-copy-out-to
-    cast-to
+    sub-next
+    mul-next
+    element-copy-out-next
+    cast-next
     pass-requires
     enter-requires
     returns)

@@ -8,11 +8,11 @@ use Rattle.layers.proofs.weigh.number_node.Tie as tie
 number-requires : tie.Need-number-requires
 number-requires c κs = search needs
 
-cast-numbers : tie.Need-cast-numbers
-cast-numbers c = search needs
-
 add-numbers : tie.Need-add-numbers
 add-numbers c = search needs
+
+cast-numbers : tie.Need-cast-numbers
+cast-numbers c = search needs
 
 mul-numbers : tie.Need-mul-numbers
 mul-numbers c = search needs
@@ -20,11 +20,11 @@ mul-numbers c = search needs
 element-write-numbers : tie.Need-element-write-numbers
 element-write-numbers c = search needs
 
-cast-numbers-2 : tie.Need-cast-numbers-2
-cast-numbers-2 c = search needs
-
 add-numbers-2 : tie.Need-add-numbers-2
 add-numbers-2 c = search needs
+
+cast-numbers-2 : tie.Need-cast-numbers-2
+cast-numbers-2 c = search needs
 
 add-numbers-3 : tie.Need-add-numbers-3
 add-numbers-3 c = search needs
@@ -45,12 +45,12 @@ number-node-spec =
     tie.close
     (tie.spec
     number-requires
-    cast-numbers
     add-numbers
+    cast-numbers
     mul-numbers
     element-write-numbers
-    cast-numbers-2
     add-numbers-2
+    cast-numbers-2
     add-numbers-3
     mul-numbers-2
     element-write-numbers-2

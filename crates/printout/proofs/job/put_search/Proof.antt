@@ -9,7 +9,7 @@ use lib.Seq.{length-take-le, take-at}
 use borrow.Author.Needs.{needs}
 use Rattle.diagram.specs.Table.{tableOf, choiceCount}
 use Rattle.reading.proofs.Outcomes.{refused-read, table-choices}
-use Rattle.cost.proofs.Kits.{kits-length}
+use Rattle.decoding.proofs.Kits.{kits-length}
 use Rattle.printout.proofs.Jobs.{choices-kept, scale-read, take-zeros, job-unread, job-refused, job-found, cost-is}
 use Rattle.printout.proofs.job.put_search.Statement.{statement}
 use Rattle.printout.proofs.job.put_search.Tie as tie

@@ -9,7 +9,7 @@ use borrow.Author.Needs.{needs}
 use borrow.Author.Tests.{lt-ltb, le-ltb}
 use Rattle.diagram.specs.Table.{Record}
 use Rattle.diagram.specs.Checks.{isChild}
-use Rattle.implication.specs.Nodes.{Placed}
+use Rattle.decoding.specs.Nodes.{Placed}
 use Rattle.reading.proofs.records.is_child.Statement.{statement}
 use Rattle.reading.proofs.records.is_child.Tie as tie
 

@@ -11,7 +11,7 @@ use borrow.Author.Tests.{lt-ltb, le-ltb, eq-eqb, ne-eqb, not-true, not-false}
 use Rattle.diagram.specs.Words.{kind, fieldP, fieldQ, fieldR}
 use Rattle.diagram.specs.Table.{Record}
 use Rattle.diagram.specs.Checks.{isRecordWord, isChild}
-use Rattle.implication.specs.Nodes.{Placed}
+use Rattle.decoding.specs.Nodes.{Placed}
 use Rattle.reading.proofs.records.is_record_word.Statement.{statement}
 use Rattle.reading.proofs.records.is_record_word.Tie as tie
 

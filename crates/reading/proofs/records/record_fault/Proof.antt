@@ -10,12 +10,12 @@ use Rattle.diagram.specs.Words.{wordAt}
 use Rattle.diagram.specs.Table.{Record, recordAt, recordOf, tableOf, variableCount, recordCount}
 use Rattle.diagram.specs.Checks.{recordFault, firstPlace, isRecordWord}
 use Rattle.diagram.proofs.Places.{place-start, place-here, place-next, place-end}
+use Rattle.decoding.specs.Nodes.{Placed}
+use Rattle.decoding.proofs.Shape.{heading-records, record-at-word, record-at-fault, record-test}
+use Rattle.decoding.specs.Nodes.{Filled}
+use Rattle.decoding.proofs.Columns.{fill-alike, fill-next, filled-placed}
 use Rattle.steps.specs.Steps.{faultOf}
-use Rattle.implication.specs.Nodes.{Placed}
 use Rattle.steps.specs.declared.verdict.Fault.the-variants.{At}
-use Rattle.implication.proofs.Shape.{heading-records, record-at-word, record-at-fault, record-test}
-use Rattle.implication.specs.Nodes.{Filled}
-use Rattle.implication.proofs.Columns.{fill-alike, fill-next, filled-placed}
 use Rattle.reading.proofs.records.record_fault.Statement.{statement}
 use Rattle.reading.proofs.records.record_fault.Tie as tie
 

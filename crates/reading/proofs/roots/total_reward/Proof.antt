@@ -7,7 +7,7 @@ use lib.ListN.{length, take}
 use lib.Seq.{take-all}
 use borrow.Author.Needs.{needs}
 use Rattle.diagram.specs.Table.{tableOf, totalReward}
-use Rattle.reading.proofs.Rooting.{root-is, total-next}
+use Rattle.decoding.proofs.Rooting.{root-is, total-next}
 use Rattle.reading.proofs.roots.total_reward.Statement.{statement}
 use Rattle.reading.proofs.roots.total_reward.Tie as tie
 

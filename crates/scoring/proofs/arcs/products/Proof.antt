@@ -6,7 +6,7 @@ use mathlib.Core.Path.{_≡_, _∙_}
 use lib.ListN.{length, getD}
 use borrow.Author.Needs.{needs}
 use Rattle.diagram.specs.Table.{tableOf}
-use Rattle.implication.proofs.Choosing.{variables-length}
+use Rattle.decoding.proofs.Choosing.{variables-length}
 use Rattle.reading.proofs.Accepted.{passed-variables}
 use Rattle.scoring.specs.Passes.{products}
 use Rattle.scoring.proofs.Arcing.{From, from-start, from-next, from-all, suffix, suffix-past, suffix-down, suffix-fits}

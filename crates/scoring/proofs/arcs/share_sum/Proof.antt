@@ -6,7 +6,7 @@ use borrow.Author.Tests.{eqb-true, eqb-false}
 use borrow.Author.Needs.{needs}
 use Rattle.diagram.specs.Words.{wordAt, kind}
 use Rattle.diagram.specs.Table.{scaleOf}
-use Rattle.implication.proofs.Choosing.{is-choice-kind}
+use Rattle.decoding.proofs.Choosing.{is-choice-kind}
 use Rattle.scoring.proofs.Arcing.{word-choice, word-chance}
 use Rattle.scoring.proofs.arcs.share_sum.Statement.{statement}
 use Rattle.scoring.proofs.arcs.share_sum.Tie as tie

@@ -7,8 +7,8 @@ use mathlib.Core.List.{List}
 use lib.ListN.{length, getD, List·getD-eq-default}
 use borrow.Author.Needs.{needs}
 use Rattle.diagram.specs.Table.{Variable, chance, variableOf, tableOf}
-use Rattle.implication.proofs.Choosing.{variables-length}
-use Rattle.implication.proofs.Pairing.{variable-at}
+use Rattle.decoding.proofs.Choosing.{variables-length}
+use Rattle.decoding.proofs.Choosing.{variable-at}
 use Rattle.scoring.specs.Value.{highShare, lowShare}
 use Rattle.scoring.specs.Passes.{sharesBy}
 use Rattle.scoring.proofs.Arcing.{From, from-start, from-next, from-all}

@@ -6,9 +6,9 @@ use mathlib.Core.Path.{_≡_, refl}
 use lib.ListN.{length, length-set}
 use borrow.Author.Needs.{needs}
 use Rattle.diagram.specs.Table.{Table, tableOf}
-use Rattle.reading.specs.Roots.{rootAt}
-use Rattle.reading.proofs.Rooting.{root-is, roots-few}
-use Rattle.reading.proofs.Accepted.{records-length}
+use Rattle.decoding.specs.Decoding.{rootAt}
+use Rattle.decoding.proofs.Rooting.{root-is, roots-few}
+use Rattle.decoding.proofs.Shape.{records-length}
 use Rattle.scoring.specs.Value.{place, gap}
 use Rattle.scoring.specs.Passes.{RootsHeldTo}
 use Rattle.scoring.proofs.Bounding.{node-within, node-weighs, node-weight-fits}

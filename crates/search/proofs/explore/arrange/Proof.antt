@@ -4,7 +4,7 @@ use native.Mathlib.Omega.{arith}
 use mathlib.Core.Path.{_≡_, refl, ap, sym, _∙_}
 use lib.ListN.{length, replicate}
 use Rattle.diagram.specs.Table.{sequence, tableOf}
-use Rattle.implication.proofs.Choosing.{variables-length}
+use Rattle.decoding.proofs.Choosing.{variables-length}
 use Rattle.reading.proofs.Accepted.{passed-monotone}
 use Rattle.scoring.specs.Passes.{over, Marked}
 use Rattle.scoring.proofs.Bounding.{records-few}

@@ -2,7 +2,7 @@
 use mathlib.Core.Path.{_≡_, refl, sym, _∙_}
 use lib.ListN.{length}
 use Rattle.diagram.specs.Table.{tableOf}
-use Rattle.reading.proofs.Accepted.{records-length}
+use Rattle.decoding.proofs.Shape.{records-length}
 use borrow.Author.Needs.{needs}
 use Rattle.search.proofs.explore.explore.Statement.{statement}
 use Rattle.search.proofs.explore.explore.Tie as tie

@@ -4,7 +4,7 @@ use native.Mathlib.Omega.{arith}
 use mathlib.Core.Path.{_≡_, refl, _∙_}
 use lib.ListN.{length, replicate}
 use Rattle.diagram.specs.Table.{sequence, tableOf, choiceCount}
-use Rattle.implication.proofs.Choosing.{variables-length}
+use Rattle.decoding.proofs.Choosing.{variables-length}
 use Rattle.reading.proofs.Accepted.{passed-variables, passed-choices}
 use Rattle.scoring.specs.Passes.{over}
 use Rattle.search.specs.State.{choicePosition, priced}

@@ -4,6 +4,9 @@ use borrow.Author.Needs.{needs}
 use Rattle.search.proofs.lines.line_kits.Statement.{statement}
 use Rattle.search.proofs.lines.line_kits.Tie as tie
 
+add-before : tie.Need-add-before
+add-before c = search needs
+
 add-wide : tie.Need-add-wide
 add-wide c = search needs
 
@@ -20,4 +23,4 @@ returns : tie.Need-returns
 returns c = omega (arith, c .wide .ensures .0)
 
 pub line-kits-spec : {M : Type 1} → statement M
-line-kits-spec = tie.close (tie.spec add-wide mul-wide element-copy-out-wide wide-requires returns)
+line-kits-spec = tie.close (tie.spec add-before add-wide mul-wide element-copy-out-wide wide-requires returns)

@@ -22,7 +22,7 @@ use Rattle.incumbent.proofs.goes_back.Reads as goes-back-reads
 use Rattle.incumbent.proofs.is_beaten.Reads as is-beaten-reads
 use Rattle.incumbent.proofs.keep.Reads as keep-reads
 use Rattle.layers.proofs.enter_layer.Reads as enter-layer-reads
-use Rattle.layers.proofs.leave_layer.Reads as leave-layer-reads
+use Rattle.layers.proofs.leave_line.Reads as leave-line-reads
 use Rattle.search.proofs.visit.+visit+visit_taken.{statement}
 use Rattle.search.proofs.visit.+visit+visit_taken.Tie.{close}
 
@@ -68,8 +68,8 @@ R t = (
   taken.Post,
   is-beaten-reads.Asked,
   is-beaten-reads.Learnt,
-  leave-layer-reads.Asked,
-  leave-layer-reads.Learnt,
+  leave-line-reads.Asked,
+  leave-line-reads.Learnt,
   visit-below t,
   visit.Post,
 )
@@ -176,8 +176,8 @@ visit-returns-3 t c =
     (took .mark-line .ensures) (first .visit-taken .ensures) (layer .enter-layer .ensures .0) refl (tested .goes-back .ensures) (stays .if1 .left)
     (worth .is-beaten .ensures) (c .before .before .if3 .taken) (c .mark-line2 .ensures)
 
-visit-leave-layer-requires : (t : ℕ) → visit-lts.Need-leave-layer-requires (R t) (visit-at t) visit.Post
-visit-leave-layer-requires t c κs =
+visit-leave-line-requires : (t : ℕ) → visit-lts.Need-leave-line-requires (R t) (visit-at t) visit.Post
+visit-leave-line-requires t c κs =
     let first = c .before .before .before .before in
     let took = first .before .before .before .before .before in
     let layer = took .before .before in
@@ -210,7 +210,7 @@ visit-visit-requires t c κs =
     let start = counted .before .before in (
       omega (arith, start .pre .0, more .if2 .left),
       second-ready (start .pre .1 .1 .0 .1) (start .pre .1 .0) (counted .count .ensures) (more .if2 .left) (layer .enter-layer .ensures .1)
-          (took .mark-line .ensures) (first .visit-taken .ensures) (layer .enter-layer .ensures .0) refl (leave .leave-layer .ensures)
+          (took .mark-line .ensures) (first .visit-taken .ensures) (layer .enter-layer .ensures .0) refl (leave .leave-line .ensures)
           (left .mark-line3 .ensures) (start .pre .1 .1 .1),
     )
 
@@ -226,7 +226,7 @@ visit-mark-line-requires-4 t c κs =
     let counted = more .before .before .before .before in
     let start = counted .before .before in
     open-ready (start .pre .1 .1 .0 .1) (start .pre .1 .0) (counted .count .ensures) (more .if2 .left) (layer .enter-layer .ensures .1)
-    (took .mark-line .ensures) (first .visit-taken .ensures) (layer .enter-layer .ensures .0) refl (leave .leave-layer .ensures)
+    (took .mark-line .ensures) (first .visit-taken .ensures) (layer .enter-layer .ensures .0) refl (leave .leave-line .ensures)
     (left .mark-line3 .ensures) (both .visit .ensures)
 
 visit-returns-4 : (t : ℕ) → visit-lts.Need-returns-4 (R t) (visit-at t) visit.Post
@@ -245,7 +245,7 @@ visit-returns-4 t c =
     let counted = tested .before .before in
     let start = counted .before .before in
     λ g given. visit-both given (start .pre .1 .0) (counted .count .ensures) (more .if2 .left) (layer .enter-layer .ensures .1)
-    (took .mark-line .ensures) (first .visit-taken .ensures) (layer .enter-layer .ensures .0) refl (leave .leave-layer .ensures)
+    (took .mark-line .ensures) (first .visit-taken .ensures) (layer .enter-layer .ensures .0) refl (leave .leave-line .ensures)
     (left .mark-line3 .ensures) (both .visit .ensures) (tested .goes-back .ensures) (stays .if1 .left) (worth .is-beaten .ensures)
     (second .if3 .left) (c .mark-line4 .ensures)
 
@@ -300,7 +300,7 @@ pub +visit+visit-taken-spec : {M : Type 1} → statement M
     (visit-is-beaten-requires t)
     (visit-mark-line-requires-2 t)
     (visit-returns-3 t)
-    (visit-leave-layer-requires t)
+    (visit-leave-line-requires t)
     (visit-mark-line-requires-3 t)
     (visit-visit-requires t)
     (visit-mark-line-requires-4 t)

@@ -5,8 +5,9 @@ use mathlib.Core.Path.{_≡_, refl, sym, _∙_}
 use lib.ListN.{length}
 use Rattle.diagram.specs.Table.{tableOf}
 use Rattle.diagram.specs.Plans.{derivative}
-use Rattle.implication.proofs.Choosing.{variables-length}
-use Rattle.reading.proofs.Accepted.{records-length, passed-variables, passed-choices, passed-monotone}
+use Rattle.decoding.proofs.Choosing.{variables-length}
+use Rattle.decoding.proofs.Shape.{records-length}
+use Rattle.reading.proofs.Accepted.{passed-variables, passed-choices, passed-monotone}
 use Rattle.scoring.specs.Passes.{Marked}
 use Rattle.scoring.proofs.Bounding.{marked}
 use Rattle.sweep.proofs.Deriving.{drops-chosen, drops-all}
