@@ -121,13 +121,13 @@ pub fn limits_of(file: &[u8], budget: u32, least: u64) -> Limits
 
 // What is held and counted after the search of a file that has passed every check, from a plan that the checks 21 and 22 let
 // through. The arrays hold the file's records, as `accept` leaves them.
-pub fn explore(
+pub fn explore<'a>(
     file: &[u8],
     plan: &[u8],
     limits: Limits,
-    positions: &[u8; 256],
-    high: &[u8; 256],
-    low: &[u8; 256],
+    positions: &'a [u8; 256],
+    high: &'a [u8; 256],
+    low: &'a [u8; 256],
     best: &mut [u8; 20],
     tally: &mut [u64; 3],
 )
