@@ -6,7 +6,6 @@ use diagram::field_r;
 use diagram::word_at;
 ghost use mathlib.Core.Path.{_≡_};
 ghost use Prim.Native.Nat.{_+_, _≤_};
-
 ghost use Rattle.diagram.specs.Words.{wordAt, fieldR};
 ghost use Rattle.diagram.specs.Table.{tableOf, choiceCount};
 ghost use Rattle.decoding.specs.Decoding.{padTo, choicePositions};

@@ -4,7 +4,6 @@ use diagram::Position;
 use diagram::kind;
 use diagram::word_at;
 ghost use mathlib.Core.Path.{_≡_};
-
 ghost use Prim.Native.Nat.{_+_, _<_};
 ghost use lib.ListN.{getD};
 ghost use Rattle.diagram.specs.Words.{wordAt};

@@ -72,15 +72,7 @@ fn explore_record(
     let low = child_of(&t.low, node);
     let high = child_of(&t.high, node);
     let depth = meet(met, firsts, seconds, 0, low, high);
-    explore(
-        met,
-        firsts,
-        seconds,
-        &t.positions,
-        &t.high,
-        &t.low,
-        depth,
-    );
+    explore(met, firsts, seconds, &t.positions, &t.high, &t.low, depth);
 }
 
 // Passes on every pair of the stack, and those that are met on the way, until the stack is empty.

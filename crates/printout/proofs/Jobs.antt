@@ -23,7 +23,7 @@ use Rattle.reading.specs.declared.answer.ReadAnswer.{ReadAnswer}
 use Rattle.reading.specs.Answer.{outcomeOf}
 use Rattle.reading.proofs.Accepted.{passed-choices}
 use Rattle.reading.proofs.Outcomes.{numbers, table-passed, table-choices}
-use Rattle.sweep.proofs.Requesting.{table-answered}
+use Rattle.requesting.proofs.Requests.{table-answered}
 use Rattle.search.specs.declared.answer.Finding.{Finding}
 use Rattle.search.specs.declared.answer.SearchAnswer.{SearchAnswer}
 use Rattle.search.specs.declared.answer.SearchAnswer.the-variants.{Found, Refused}

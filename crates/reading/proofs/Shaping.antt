@@ -24,19 +24,19 @@ use Rattle.reading.proofs.Outcomes.{numbers}
 -- The parts
 
 -- three steps are the first list
-pub heading-is : (s : List ℕ) {v w x : Verdict} {a b c : Fault} → x ≡ andThen w 13 c → c ≡ faultOf (countFault s) → w ≡ andThen v 12 b → b ≡ faultOf (headingFault s) → v ≡ andThen Passes 11 a → a ≡ faultOf (lengthFault s) → x ≡ finding headingChecks s
+pub heading-is : (s : List ℕ) {v w x : Verdict} {l m n : ℕ} {a b c : Fault} → x ≡ andThen w n c → n ≡ 13 → c ≡ faultOf (countFault s) → w ≡ andThen v m b → m ≡ 12 → b ≡ faultOf (headingFault s) → v ≡ andThen Passes l a → l ≡ 11 → a ≡ faultOf (lengthFault s) → x ≡ finding headingChecks s
 unfolding findingAfter
-heading-is s e13 f13 e12 f12 e11 f11 = rw (e13, f13, e12, f12, e11, f11) refl
+heading-is s e13 n f13 e12 m f12 e11 l f11 = rw (e13, n, f13, e12, m, f12, e11, l, f11) refl
 
 -- two are the second
-pub variables-are : (s : List ℕ) (v : Verdict) {w : Verdict} {f : Fault} {b : Bounded} {r : Measured} → r ≡ andWithin w 15 b → b ≡ boundedBy (choiceFault s) (choiceCount (tableOf s .variables)) → w ≡ andThen v 14 f → f ≡ faultOf (variableFault s) → Measures v variableChecks s (choiceCount (tableOf s .variables)) r
-variables-are s v {w} e15 f15 e14 f14 =
-    measures-after v _ _ s _ (one-check v (record { number = 14; fault = variableFault }) s e14 f14) (one-measured w _ s _ e15 f15)
+pub variables-are : (s : List ℕ) (v : Verdict) {w : Verdict} {m n : ℕ} {f : Fault} {b : Bounded} {r : Measured} → r ≡ andWithin w n b → n ≡ 15 → b ≡ boundedBy (choiceFault s) (choiceCount (tableOf s .variables)) → w ≡ andThen v m f → m ≡ 14 → f ≡ faultOf (variableFault s) → Measures v variableChecks s (choiceCount (tableOf s .variables)) r
+variables-are s v {w} e15 n f15 e14 m f14 =
+    measures-after v _ _ s _ (one-check v (record { number = 14; fault = variableFault }) s e14 m f14) (one-measured w _ s _ e15 n f15)
 
 -- two are that of the record and root words
-pub records-are : (s : List ℕ) {u v w : Verdict} {a b : Fault} → w ≡ andThen v 26 b → b ≡ faultOf (rootFault s) → v ≡ andThen Passes 17 a → a ≡ faultOf (recordFault s) → u ≡ Passes → w ≡ findingAfter u recordChecks s
+pub records-are : (s : List ℕ) {u v w : Verdict} {m n : ℕ} {a b : Fault} → w ≡ andThen v n b → n ≡ 26 → b ≡ faultOf (rootFault s) → v ≡ andThen Passes m a → m ≡ 17 → a ≡ faultOf (recordFault s) → u ≡ Passes → w ≡ findingAfter u recordChecks s
 unfolding findingAfter
-records-are s e26 f26 e17 f17 p = rw (e26, f26, e17, f17, p) refl
+records-are s e26 n f26 e17 m f17 p = rw (e26, n, f26, e17, m, f17, p) refl
 
 -- ---------------------------------------------------------------------------
 -- The parts together

@@ -1,4 +1,8 @@
 // Check 17: the record words. The positions of the records passed are kept, since a record's children come before it.
+use decoding::position_of;
+use decoding::record_count;
+use decoding::store;
+use decoding::variable_count;
 use diagram::Node;
 use diagram::Position;
 use diagram::field_p;
@@ -6,10 +10,6 @@ use diagram::field_q;
 use diagram::field_r;
 use diagram::kind;
 use diagram::word_at;
-use decoding::position_of;
-use decoding::record_count;
-use decoding::store;
-use decoding::variable_count;
 use steps::Fault;
 ghost use mathlib.Core.Path.{_≡_};
 ghost use mathlib.Core.Option.{none};

@@ -1,16 +1,16 @@
 // The checks 26 and 27: the root words, and B.
 use crate::variables::exceeds;
+use decoding::record_count;
 use decoding::root_at;
 use decoding::root_count;
 use decoding::root_word_count;
+use decoding::variable_count;
 use diagram::MOST_REWARD;
 use diagram::field_p;
 use diagram::field_q;
 use diagram::field_r;
 use diagram::kind;
 use diagram::word_at;
-use decoding::record_count;
-use decoding::variable_count;
 use steps::Bounded;
 use steps::Fault;
 ghost use mathlib.Core.Path.{_≡_};

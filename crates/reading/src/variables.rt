@@ -1,4 +1,6 @@
 // The checks 14 to 16: the variable words, the number of choices and the product of b.
+use decoding::is_choice;
+use decoding::variable_count;
 use diagram::MOST_MORE_KITS;
 use diagram::MOST_PARTS;
 use diagram::MOST_SCALE;
@@ -9,8 +11,6 @@ use diagram::field_q;
 use diagram::field_r;
 use diagram::kind;
 use diagram::word_at;
-use decoding::is_choice;
-use decoding::variable_count;
 use steps::Bounded;
 use steps::Fault;
 ghost use mathlib.Core.Path.{_≡_};

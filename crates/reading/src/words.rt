@@ -1,4 +1,7 @@
 // The checks 11 to 13: the file's length and its heading.
+use decoding::record_count;
+use decoding::root_word_count;
+use decoding::variable_count;
 use diagram::MOST_BYTES;
 use diagram::MOST_RECORDS;
 use diagram::MOST_ROOTS;
@@ -8,9 +11,6 @@ use diagram::field_q;
 use diagram::field_r;
 use diagram::kind;
 use diagram::word_at;
-use decoding::record_count;
-use decoding::root_word_count;
-use decoding::variable_count;
 use steps::Fault;
 ghost use mathlib.Core.Path.{_≡_};
 ghost use Rattle.diagram.specs.Checks.{lengthFault, isHeading, headingFault, countFault};

@@ -18,7 +18,7 @@ use Rattle.scoring.specs.Passes.{over, byNode, products, marksByPosition
 use Rattle.scoring.proofs.Values.{shares-drop, gap-scale}
 use Rattle.scoring.proofs.Over.{over-at}
 use Rattle.scoring.proofs.Arcing.{products-at, position-in, suffix-gap}
-use Rattle.scoring.proofs.FullPlans.{Legal}
+use Rattle.requesting.proofs.FullPlans.{Legal}
 
 module _ {d : Decoded} (sound : Sound d) where
   -- the arrays hold the table and the plan

@@ -2,9 +2,7 @@
 pub mod Over
 pub mod Arcing
 pub mod Values
-pub mod FullPlans
 pub mod Forcing
 pub mod Passing
 pub mod Bounding
 pub mod HeldRoots
-pub mod Requests

@@ -6,7 +6,6 @@ mod bound;
 mod force;
 mod layout;
 mod pass;
-mod plans;
 mod roots;
 
 pub use answer::ScoreAnswer;
@@ -14,19 +13,18 @@ pub use bound::bound_of;
 pub use bound::upper_bound;
 pub use bound::value_of;
 pub use bound::values_of;
-use diagram::Refusal;
 pub use force::high_weight;
 pub use force::in_force;
 pub use force::mark_at;
 pub use force::marks_by_position;
 pub use layout::lay_out;
 pub use pass::pass_up;
-pub use plans::mark_fault;
 use reading::ReadAnswer;
 use reading::read_table;
+use requesting::check_full_plan;
 pub use roots::Roots;
 pub use roots::root_sum;
-use steps::Fault;
+use steps::Verdict;
 ghost use mathlib.Core.Path.{_≡_};
 ghost use Rattle.diagram.specs.Services.{scoreOutcome};
 ghost use Rattle.scoring.specs.Answer.{outcomeOf};
@@ -41,18 +39,9 @@ pub fn score(file: &[u8], plan: &[u8]) -> ScoreAnswer
         ReadAnswer::Table(numbers) => numbers,
         ReadAnswer::Refused(r) => return ScoreAnswer::Refused(r),
     };
-    if plan.len() != numbers.choices {
-        return refuse(21, 0);
-    }
-    if let Fault::At(place) = plans::full_plan_fault(plan) {
-        return refuse(22, place);
-    }
     let t = found.table;
-    ScoreAnswer::Score(upper_bound(t, plan))
-}
-
-fn refuse(number: u8, place: usize) -> ScoreAnswer
-    ensures { λ r. ⌜ r ≡ ScoreAnswer.Refused (record { number = number; place = place }) ⌝ }
-{
-    ScoreAnswer::Refused(Refusal { number, place })
+    match check_full_plan(plan, numbers.choices) {
+        Verdict::Passes => ScoreAnswer::Score(upper_bound(t, plan)),
+        Verdict::Refused(r) => ScoreAnswer::Refused(r),
+    }
 }

@@ -1,6 +1,6 @@
 // The pass up the records: the value of every node.
-use diagram::Node;
 use decoding::child_of;
+use diagram::Node;
 ghost use mathlib.Core.Path.{_≡_};
 ghost use Prim.Native.Nat.{_≤_, _<_, _^_};
 ghost use lib.ListN.{length};

@@ -16,8 +16,8 @@ use Rattle.diagram.specs.Services.{refused, answered, written, Reading, searchi
 use Rattle.diagram.specs.declared.refusal.Refusal.{Refusal}
 use Rattle.reading.proofs.Accepted.{passed-choices, passed-formed, passed-monotone}
 use Rattle.rule.proofs.Visiting.{visited-first, visits-bounded}
-use Rattle.sweep.specs.Request.{requestOutcome}
-use Rattle.sweep.proofs.Requesting.{Proper, proper, search-refused, search-answered}
+use Rattle.requesting.specs.Request.{requestOutcome}
+use Rattle.requesting.proofs.Requests.{Proper, proper, search-refused, search-answered}
 use Rattle.search.specs.declared.answer.SearchAnswer.{SearchAnswer}
 use Rattle.search.specs.declared.answer.SearchAnswer.the-variants.{Found, Refused}
 use Rattle.search.specs.Answer.{searchOf, visitsOf}

@@ -26,7 +26,7 @@ use Rattle.scoring.specs.declared.roots.Roots.{Roots}
 use Rattle.scoring.specs.Value.{marksFrom}
 use Rattle.scoring.specs.Passes.{over, markOf, marksByPosition, Marked}
 use Rattle.scoring.proofs.Bounding.{marked}
-use Rattle.scoring.proofs.FullPlans.{Legal}
+use Rattle.requesting.proofs.FullPlans.{Legal}
 use Rattle.scoring.proofs.Over.{over-sequence-at}
 use Rattle.scoring.proofs.Passing.{choices-before}
 use Rattle.sweep.specs.Drops.{Chosen}

@@ -4,6 +4,8 @@ use crate::lines::open_lines;
 use crate::visit::visit;
 use cost::cost_of;
 use cost::kits_of;
+use decoding::record_count;
+use decoding::variable_count;
 use diagram::Plan;
 use incumbent::CUTOFF;
 use incumbent::ROOM;
@@ -12,8 +14,6 @@ use layers::ROOT_CELL;
 use layers::lay_arcs;
 use layers::order_records;
 use layers::weigh_losses;
-use decoding::record_count;
-use decoding::variable_count;
 use scoring::Roots;
 use scoring::lay_out;
 use scoring::marks_by_position;
@@ -121,13 +121,13 @@ pub fn limits_of(file: &[u8], budget: u32, least: u64) -> Limits
 
 // What is held and counted after the search of a file that has passed every check, from a plan that the checks 21 and 22 let
 // through. The arrays hold the file's records, as `accept` leaves them.
-pub fn explore(
+pub fn explore<'a>(
     file: &[u8],
     plan: &[u8],
     limits: Limits,
-    positions: &[u8; 256],
-    high: &[u8; 256],
-    low: &[u8; 256],
+    positions: &'a [u8; 256],
+    high: &'a [u8; 256],
+    low: &'a [u8; 256],
     best: &mut [u8; 20],
     tally: &mut [u64; 3],
 )

@@ -13,8 +13,8 @@ use explore::limits_of;
 use incumbent::CUTOFF;
 use incumbent::ROOM;
 use incumbent::VISITS;
-use sweep::RequestAnswer;
-use sweep::accept;
+use reading::ReadAnswer;
+use requesting::accept;
 ghost use mathlib.Core.Path.{_≡_};
 ghost use Prim.Native.Nat.{suc, _+_, _≤_, _^_};
 ghost use lib.ListN.{length, take};
@@ -29,32 +29,23 @@ pub fn search(file: &[u8], plan: &[u8], budget: u32, percent: u32, out: &mut [u8
     ensures buffer { λ r. ⌜ now (out .exit) ≡ searchBuffer (now (file .entry)) (now (plan .entry)) budget percent (now (out .entry)) ⌝ }
     ensures visits { λ r. ⌜ visitsOf r + 1 ≤ 2 ^ suc (openCount (now (plan .entry))) ⌝ }
 {
-    let mut positions = [0u8; 256];
-    let mut high = [0u8; 256];
-    let mut low = [0u8; 256];
-    let t = match accept(
-        file,
-        plan,
-        budget,
-        percent,
-        out.len(),
-        &mut positions,
-        &mut high,
-        &mut low,
-    ) {
-        RequestAnswer::Accepted(t) => t,
-        RequestAnswer::Refused(r) => return SearchAnswer::Refused(r),
+    let found = accept(file, plan, budget, percent, out.len());
+    let answer = found.answer;
+    let numbers = match answer {
+        ReadAnswer::Table(numbers) => numbers,
+        ReadAnswer::Refused(r) => return SearchAnswer::Refused(r),
     };
+    let t = found.table;
     let mut best = [0u8; 20];
     let mut tally = [0u64; 3];
-    let limits = limits_of(file, budget, least_passing(percent, t.scale));
+    let limits = limits_of(file, budget, least_passing(percent, numbers.scale));
     explore(
         file,
         plan,
         limits,
-        &positions,
-        &high,
-        &low,
+        &t.positions,
+        &t.high,
+        &t.low,
         &mut best,
         &mut tally,
     );

@@ -72,9 +72,9 @@ pub and-finding : (u : Verdict) {v w : Verdict} (cs ds : List Check) (s : List �
 and-finding u cs ds s e q = q ∙ rw e (sym (finding-append u cs ds s))
 
 -- one check
-pub one-check : (v : Verdict) {w : Verdict} (c : Check) (s : List ℕ) {f : Fault} → w ≡ andThen v (c .number) f → f ≡ faultOf (c .fault s) → w ≡ findingAfter v (c ∷ []) s
+pub one-check : (v : Verdict) {w : Verdict} (c : Check) (s : List ℕ) {n : ℕ} {f : Fault} → w ≡ andThen v n f → n ≡ c .number → f ≡ faultOf (c .fault s) → w ≡ findingAfter v (c ∷ []) s
 unfolding findingAfter
-one-check v c s q e = q ∙ rw e refl
+one-check v c s q n e = q ∙ rw (n, e) refl
 
 pub refused-after : {v : Verdict} (r : Refusal) (cs : List Check) (s : List ℕ) → v ≡ Refused r → Refused r ≡ findingAfter v cs s
 refused-after r cs s e = rw e (sym (refusal-stands r cs s))
@@ -118,9 +118,9 @@ unfolding findingAfter andThen faultOf
 passes-next c cs s e rest = rw e rest
 
 -- a check of a number that has a limit
-pub one-measured : (v : Verdict) {r : Measured} (c : Check) (s : List ℕ) (x : ℕ) {b : Bounded} → r ≡ andWithin v (c .number) b → b ≡ boundedBy (c .fault s) x → Measures v (c ∷ []) s x r
-one-measured v c s x q e =
-    let one = one-check v c s (ap (λ (m : Measured). m .found) q) (bounded-fault (c .fault s) x e) in
+pub one-measured : (v : Verdict) {r : Measured} (c : Check) (s : List ℕ) (x : ℕ) {n : ℕ} {b : Bounded} → r ≡ andWithin v n b → n ≡ c .number → b ≡ boundedBy (c .fault s) x → Measures v (c ∷ []) s x r
+one-measured v c s x q n e =
+    let one = one-check v c s (ap (λ (m : Measured). m .found) q) n (bounded-fault (c .fault s) x e) in
     record {
       found = one;
       value = λ p. ap (λ (m : Measured). m .value) q ∙ bounded-value (c .fault s) x e (passes-among v s one p (c .number) (c .fault) first);

@@ -1,5 +1,4 @@
 -- The laws of the pass down, of the drops and of the filter.
-pub mod Requesting
 pub mod Serving
 pub mod ForcedLines
 pub mod Transposing

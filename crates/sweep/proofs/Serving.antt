@@ -15,8 +15,8 @@ use Rattle.reading.proofs.Accepted.{passed-formed, passed-monotone, passed-choi
 use Rattle.scoring.specs.Passes.{over}
 use Rattle.scoring.proofs.Over.{over-sequence-at}
 use Rattle.sweep.specs.Drops.{Swept}
-use Rattle.sweep.specs.Request.{requestOutcome}
-use Rattle.sweep.proofs.Requesting.{Proper, proper, sweep-refused, sweep-answered, filter-refused, filter-answered}
+use Rattle.requesting.specs.Request.{requestOutcome}
+use Rattle.requesting.proofs.Requests.{Proper, proper, sweep-refused, sweep-answered, filter-refused, filter-answered}
 
 -- ---------------------------------------------------------------------------
 -- Any service

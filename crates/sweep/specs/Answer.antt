@@ -1,19 +1,11 @@
 -- The enums of this crate in the terms of the meaning: each case with the paper's number and values.
 use Prim.Native.Nat.{ℕ}
 use mathlib.Core.List.{List}
-use Rattle.diagram.specs.Services.{Outcome, refused, answered, Reading, Sweeping, Filtering}
-use Rattle.sweep.specs.declared.answer.RequestAnswer.{RequestAnswer}
-use Rattle.sweep.specs.declared.answer.RequestAnswer.the-variants as request
+use Rattle.diagram.specs.Services.{Outcome, refused, answered, Sweeping, Filtering}
 use Rattle.sweep.specs.declared.answer.SweepAnswer.{SweepAnswer}
 use Rattle.sweep.specs.declared.answer.SweepAnswer.the-variants as sweep
 use Rattle.sweep.specs.declared.answer.FilterAnswer.{FilterAnswer}
 use Rattle.sweep.specs.declared.answer.FilterAnswer.the-variants as filter
-
--- What comes of a request's checks: what reading answers, or a refusal's number and place
-unfoldable pub requestOf : RequestAnswer → Outcome Reading
-requestOf (request.Accepted t) =
-    answered (record { variables = t .variables; records = t .records; choices = t .choices; scale = t .scale })
-requestOf (request.Refused r) = refused (r .number) (r .place)
 
 -- What `sweep` answers, the top with the drops buffer as it is left, or a refusal's number and place
 unfoldable pub sweepOf : SweepAnswer → (drops : List ℕ) → Outcome Sweeping

@@ -1,6 +1,6 @@
 // The pass down the records: the path weight of every node.
-use diagram::Node;
 use decoding::child_of;
+use diagram::Node;
 use scoring::Roots;
 ghost use mathlib.Core.Path.{_≡_};
 ghost use Prim.Native.Nat.{ℕ, _+_, _≤_, _<_, _^_};

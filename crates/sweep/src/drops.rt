@@ -1,11 +1,11 @@
 // The drops, summed up from the values of the nodes and their path weights.
-use diagram::Node;
-use diagram::Plan;
-use diagram::Position;
 use decoding::child_of;
 use decoding::is_choice;
 use decoding::position_of;
 use decoding::variable_count;
+use diagram::Node;
+use diagram::Plan;
+use diagram::Position;
 use scoring::mark_at;
 use scoring::value_of;
 ghost use mathlib.Core.Path.{_≡_};

@@ -3,18 +3,17 @@ mod answer;
 mod down;
 mod drops;
 mod forced;
-mod request;
 mod two_pass;
 
 pub use answer::FilterAnswer;
-pub use answer::RequestAnswer;
 pub use answer::SweepAnswer;
 use diagram::Refusal;
 use diagram::least_passing;
 use diagram::passes;
 pub use drops::by_choice;
 use forced::force;
-pub use request::accept;
+use reading::ReadAnswer;
+use requesting::accept;
 use two_pass::two_passes;
 ghost use mathlib.Core.Path.{_≡_};
 ghost use Prim.Native.Nat.{_≤_};
@@ -28,22 +27,13 @@ pub fn sweep(file: &[u8], plan: &[u8], drops: &mut [u64]) -> SweepAnswer
     ensures answer { λ r. ⌜ sweepOf r (now (drops .exit)) ≡ sweepOutcome (now (file .entry)) (now (plan .entry)) (length (now (drops .entry))) ⌝ }
     ensures buffer { λ r. ⌜ now (drops .exit) ≡ sweepBuffer (now (file .entry)) (now (plan .entry)) (now (drops .entry)) ⌝ }
 {
-    let mut positions = [0u8; 256];
-    let mut high = [0u8; 256];
-    let mut low = [0u8; 256];
-    if let RequestAnswer::Refused(r) = accept(
-        file,
-        plan,
-        0,
-        0,
-        drops.len(),
-        &mut positions,
-        &mut high,
-        &mut low,
-    ) {
+    let found = accept(file, plan, 0, 0, drops.len());
+    let answer = found.answer;
+    if let ReadAnswer::Refused(r) = answer {
         return SweepAnswer::Refused(r);
     }
-    let swept = two_passes(file, plan, &positions, &high, &low);
+    let t = found.table;
+    let swept = two_passes(file, plan, &t.positions, &t.high, &t.low);
     let numbers = swept.drops;
     copy(&numbers, drops);
     SweepAnswer::Bound(swept.bound)
@@ -67,30 +57,21 @@ pub fn filter(file: &[u8], plan: &[u8], percent: u32, out: &mut [u8]) -> FilterA
     ensures answer { λ r. ⌜ filterOf r (now (out .exit)) ≡ filterOutcome (now (file .entry)) (now (plan .entry)) percent (length (now (out .entry))) ⌝ }
     ensures buffer { λ r. ⌜ now (out .exit) ≡ filterBuffer (now (file .entry)) (now (plan .entry)) percent (now (out .entry)) ⌝ }
 {
-    let mut positions = [0u8; 256];
-    let mut high = [0u8; 256];
-    let mut low = [0u8; 256];
-    let t = match accept(
-        file,
-        plan,
-        0,
-        percent,
-        out.len(),
-        &mut positions,
-        &mut high,
-        &mut low,
-    ) {
-        RequestAnswer::Accepted(t) => t,
-        RequestAnswer::Refused(r) => return FilterAnswer::Refused(r),
+    let found = accept(file, plan, 0, percent, out.len());
+    let answer = found.answer;
+    let numbers = match answer {
+        ReadAnswer::Table(numbers) => numbers,
+        ReadAnswer::Refused(r) => return FilterAnswer::Refused(r),
     };
-    let swept = two_passes(file, plan, &positions, &high, &low);
-    let least = least_passing(percent, t.scale);
+    let t = found.table;
+    let swept = two_passes(file, plan, &t.positions, &t.high, &t.low);
+    let least = least_passing(percent, numbers.scale);
     if !passes(least, swept.bound) {
         return FilterAnswer::Refused(Refusal {
             number: 31,
             place: 0,
         });
     }
-    let numbers = swept.drops;
-    FilterAnswer::Forced(force(plan, least, swept.bound, &numbers, out))
+    let drops = swept.drops;
+    FilterAnswer::Forced(force(plan, least, swept.bound, &drops, out))
 }

@@ -35,12 +35,12 @@ pub struct ByPosition {
 
 // The top and the drops of a file that has passed every check and a plan that the checks 21 and 22 let through. The arrays hold
 // the file's records, as `accept` leaves them.
-pub fn two_passes(
+pub fn two_passes<'a>(
     file: &[u8],
     plan: &[u8],
-    positions: &[u8; 256],
-    high: &[u8; 256],
-    low: &[u8; 256],
+    positions: &'a [u8; 256],
+    high: &'a [u8; 256],
+    low: &'a [u8; 256],
 ) -> Sweep
     requires passed { ⌜ Passed (now file) ⌝ }
     requires plan { ⌜ (length (now plan) ≡ choiceCount (tableOf (now file) .variables)) × ((i : ℕ) → getD (now plan) i 0 ≤ 2) ⌝ }

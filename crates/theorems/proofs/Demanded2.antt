@@ -26,9 +26,9 @@ use Rattle.rule.proofs.First.{best-first, best-some}
 use Rattle.theorems.proofs.Answers.{score-is, search-refused, found-is, found-not-refused}
 use Rattle.theorems.proofs.Deciding.{accepted-read}
 use Rattle.theorems.proofs.Completing.{completion-completes, completes-completion}
-use Rattle.sweep.proofs.Requesting.{search-answered}
+use Rattle.requesting.proofs.Requests.{search-answered}
 use Rattle.theorems.proofs.Demanded3.{legal-request}
-use Rattle.scoring.proofs.Requests.{length-fits}
+use Rattle.requesting.proofs.Requests.{length-fits}
 use Rattle.search.specs.declared.answer.SearchAnswer.{SearchAnswer}
 use Rattle.search.specs.declared.answer.SearchAnswer.the-variants.{Found}
 use Rattle.search.specs.Answer.{searchOf}

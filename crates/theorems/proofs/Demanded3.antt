@@ -30,8 +30,8 @@ use Rattle.sweep.specs.Answer.{sweepOf, filterOf}
 use Rattle.theorems.specs.Plans.{LegalMarking, Open, NonePasses, NoneLeaves}
 use Rattle.theorems.specs.Reasons.{Accepted}
 use Rattle.theorems.specs.Demand3.{refused-31, SweepHolds, FilterHolds, Demand3}
-use Rattle.sweep.specs.Request.{requestOutcome}
-use Rattle.sweep.proofs.Requesting.{request-accepted, sweep-answered, filter-answered}
+use Rattle.requesting.specs.Request.{requestOutcome}
+use Rattle.requesting.proofs.Requests.{request-accepted, sweep-answered, filter-answered}
 use Rattle.theorems.proofs.Answers.{bound-is, filter-refused, forced-is, forced-not-refused}
 use Rattle.theorems.proofs.Deciding.{accepted-read}
 use Rattle.theorems.proofs.Completing.{open-test, test-open, closed-test, no-way-passes, no-way-leaves}

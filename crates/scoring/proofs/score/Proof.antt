@@ -1,31 +1,29 @@
 -- `score` meets its contract: what reading refuses is refused, then the checks of the plan decide, and a request without fault is answered with the
 -- bound, which is the score where no line is open. Assumes nothing.
-use mathlib.Core.Path.{_≡_, sym, _∙_}
-use mathlib.Core.Option.{none}
-use mathlib.Core.List.{[]}
-use lib.ListN.{length}
-use Rattle.diagram.specs.Checks.{fullPlanFault}
-use Rattle.diagram.specs.Table.{tableOf, choiceCount}
+use mathlib.Core.Path.{_≡_}
+use Rattle.diagram.specs.Checks.{fullPlanChecks}
 use Rattle.diagram.specs.Services.{answered, reading, readOutcome}
-use Rattle.diagram.proofs.Checked.{Passed}
-use Rattle.steps.proofs.Stepping.{fault-none, fault-some}
-use Rattle.reading.proofs.Outcomes.{refused-read, table-read, table-passed, table-choices}
+use Rattle.diagram.specs.Table.{tableOf}
+use Rattle.decoding.specs.Decoding.{tableIn, Sound}
+use Rattle.steps.specs.Steps.{finding}
+use Rattle.reading.proofs.Outcomes.{refused-read, table-read, table-choices}
+use Rattle.requesting.proofs.FullPlans.{full-legal}
+use Rattle.requesting.proofs.Requests.{score-refused, score-turned, score-answered, plan-long, plan-full}
 use Rattle.scoring.specs.Answer.{outcomeOf}
-use Rattle.scoring.proofs.FullPlans.{full-legal}
-use Rattle.scoring.proofs.Requests.{score-refused, score-21, score-22, score-answered}
 use borrow.Author.Needs.{needs}
 use Rattle.scoring.proofs.score.Statement.{statement}
 use Rattle.scoring.proofs.score.Tie as tie
 
--- what is known of the file once reading has answered
-file-read : (c : tie.After-known-told) → readOutcome (c .before .before .before .before .before .before .args .file .now) ≡ answered (reading (c .before .before .before .before .before .before .args .file .now))
-file-read c = table-read _ (c .before .before .before .read-table .ensures .outcome) _ (c .before .answer .given .1)
+-- what is known once reading has answered, and what is found of the plan
+file-read : (c : tie.After-check-full-plan) → let start = c .before .before .before .before .before .before .before .before in readOutcome (start .args .file .now) ≡ answered (reading (start .args .file .now))
+file-read c =
+    let k = c .before .before in
+    table-read _ (k .before .before .before .read-table .ensures .outcome) _ (k .before .answer .given .1)
 
-file-passed : (c : tie.After-known-told) → Passed (c .before .before .before .before .before .before .args .file .now)
-file-passed c = table-passed _ (c .before .before .before .read-table .ensures .outcome) _ (c .before .answer .given .1)
-
-file-choices : (c : tie.After-known-told) → c .before .answer .given .0 .0 .choices ≡ choiceCount (tableOf (c .before .before .before .before .before .before .args .file .now) .variables)
-file-choices c = table-choices _ (c .before .before .before .read-table .ensures .outcome) _ (c .before .answer .given .1)
+plan-found : (c : tie.After-check-full-plan) → let start = c .before .before .before .before .before .before .before .before in c .check-full-plan .result ≡ finding (fullPlanChecks (start .args .plan .now)) (start .args .file .now)
+plan-found c =
+    let k = c .before .before in
+    c .check-full-plan .ensures _ (table-choices _ (k .before .before .before .read-table .ensures .outcome) _ (k .before .answer .given .1))
 
 read-table-requires : tie.Need-read-table-requires
 read-table-requires c κs = search needs
@@ -40,44 +38,43 @@ returns : tie.Need-returns
 unfolding outcomeOf
 returns c = score-refused _ _ _ _ (refused-read _ (c .before .before .before .read-table .ensures .outcome) _ (c .before .answer2 .given .1))
 
-refuse-requires : tie.Need-refuse-requires
-refuse-requires c κs = search needs
-
-returns-2 : tie.Need-returns-2
-unfolding outcomeOf
-returns-2 c = rw (c .refuse .ensures) (score-21 _ _ (file-read (c .before .before .before)) (λ e. c .before .if1 .taken (e ∙ sym (file-choices (c .before .before .before)))))
-
-full-plan-fault-requires : tie.Need-full-plan-fault-requires
-full-plan-fault-requires c κs = search needs
-
-enum-known-place : tie.Need-enum-known-place
-enum-known-place c = search needs
-
-refuse-requires-2 : tie.Need-refuse-requires-2
-refuse-requires-2 c κs = search needs
-
-returns-3 : tie.Need-returns-3
-unfolding outcomeOf
-returns-3 c = rw (c .refuse2 .ensures) (score-22 _ _ (file-read (c .before .before .before .before .before .before .before)) (c .before .before .before .before .before .if1 .left ∙ file-choices (c .before .before .before .before .before .before .before)) _ (fault-some _ _ (c .before .before .before .before .full-plan-fault .ensures) (c .before .before .place .given .1)))
+check-full-plan-requires : tie.Need-check-full-plan-requires
+check-full-plan-requires c κs = search needs
 
 enum-told : tie.Need-enum-told
 enum-told c = search needs
 
--- the plan is as long as it has to be, and full
-plan-long : (c : tie.After-enum-told) → length (c .before .before .before .before .before .before .before .before .before .before .before .args .plan .now) ≡ choiceCount (tableOf (c .before .before .before .before .before .before .before .before .before .before .before .args .file .now) .variables)
-plan-long c = c .before .before .before .if1 .left ∙ file-choices (c .before .before .before .before .before)
+enum-known-r : tie.Need-enum-known-r
+enum-known-r c = search needs
 
-plan-full : (c : tie.After-enum-told) → fullPlanFault (c .before .before .before .before .before .before .before .before .before .before .before .args .plan .now) [] ≡ none
-plan-full c = fault-none _ (c .before .before .full-plan-fault .ensures) (c .enum-told .given .1)
+-- the table that is handed out
+handed : (c : tie.After-check-full-plan) →
+    let k = c .before .before in
+    let read = k .before .before .before .read-table in
+    (tableIn (read .result .table) ≡ tableOf (c .before .before .before .before .before .before .before .before .args .file .now)) × Sound (read .result .table)
+handed c =
+    let k = c .before .before in
+    k .before .before .before .read-table .ensures .accepted _ (k .before .answer .given .1)
 
 upper-bound-requires : tie.Need-upper-bound-requires
 upper-bound-requires c κs =
-    let table = c .before .before .before .before .before .before .before .before .before .before .before .before .before .read-table .ensures .accepted _ (c .before .before .before .before .before .before .before .before .before .before .before .answer .given .1) in
-    (file-passed (c .before .before .before .before .before .before .before .before .before .before), ((plan-long (c .before .before .before .before .before), full-legal _ [] (plan-full (c .before .before .before .before .before))), decoded-read (table .0) (table .1 .held)))
+    let at = c .before .before in
+    let passes = c .enum-told .given .1 in
+    let table = handed at in
+    (table .1, (rw (table .0) (plan-long _ _ (plan-found at) passes), full-legal _ _ (plan-full _ _ (plan-found at) passes)))
 
-returns-4 : tie.Need-returns-4
+returns-2 : tie.Need-returns-2
 unfolding outcomeOf
-returns-4 c = score-answered _ _ (file-read (c .before .before .before .before .before .before .before .before .before .before .before)) (plan-long (c .before .before .before .before .before .before)) (plan-full (c .before .before .before .before .before .before)) _ (c .upper-bound .ensures)
+returns-2 c =
+    let match = c .before in
+    let at = match .before .before in
+    score-answered _ _ (plan-found at) (file-read at) (match .enum-told .given .1) _ (rw (handed at .0) at (c .upper-bound .ensures))
+
+returns-3 : tie.Need-returns-3
+unfolding outcomeOf
+returns-3 c =
+    let at = c .before .before .before in
+    score-turned _ _ (plan-found at) (file-read at) _ (c .before .r .given .1)
 
 pub score-spec : {M : Type 1} → statement M
 score-spec =
@@ -87,12 +84,9 @@ score-spec =
     enum-known-answer
     enum-known-answer-2
     returns
-    refuse-requires
-    returns-2
-    full-plan-fault-requires
-    enum-known-place
-    refuse-requires-2
-    returns-3
+    check-full-plan-requires
     enum-told
     upper-bound-requires
-    returns-4)
+    enum-known-r
+    returns-2
+    returns-3)

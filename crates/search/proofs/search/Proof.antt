@@ -10,8 +10,8 @@ use Rattle.diagram.specs.Services.{answered}
 use Rattle.reading.proofs.Outcomes.{numbers}
 use Rattle.reading.proofs.Accepted.{passed-scale, passed-choices}
 use Rattle.scoring.proofs.Requests.{decoded-read}
-use Rattle.sweep.specs.Request.{requestOutcome}
-use Rattle.sweep.proofs.Requesting.{Proper, refused-request, accepted-request, accepted-proper, accepted-scale}
+use Rattle.requesting.specs.Request.{requestOutcome}
+use Rattle.requesting.proofs.Requests.{Proper, refused-request, accepted-request, accepted-proper, accepted-scale}
 use Rattle.decoding.proofs.Kits.{kits-length, kits-first}
 use Rattle.search.specs.State.{Searched}
 use Rattle.search.proofs.Priced.{priced-own}

@@ -13,61 +13,74 @@ use Rattle.reading.proofs.Outcomes.{numbers}
 use Rattle.scoring.proofs.Requests.{decoded-read}
 use Rattle.sweep.specs.Answer.{filterOf}
 use Rattle.sweep.specs.Drops.{Swept}
-use Rattle.sweep.specs.Request.{requestOutcome}
+use Rattle.requesting.specs.Request.{requestOutcome}
 use Rattle.sweep.proofs.ForcedLines.{none-passes}
-use Rattle.sweep.proofs.Requesting.{Proper, refused-request, accepted-request, accepted-proper, accepted-scale}
+use Rattle.requesting.proofs.Requests.{Proper, refused-request, accepted-request, accepted-proper, accepted-scale}
 use Rattle.sweep.proofs.Serving.{request-swept, filter-turned, filter-31, filter-done}
 use borrow.Author.Needs.{needs}
 use Rattle.sweep.proofs.filter.Statement.{statement}
 use Rattle.sweep.proofs.filter.Tie as tie
 
 -- what is known of a request that the checks let through
-request-answered : (c : tie.After-known-told) → requestOutcome (c .before .before .before .before .before .before .before .before .before .before .args .file .now) (c .before .before .before .before .before .before .before .before .before .before .args .plan .now) 0 (c .before .before .before .before .before .before .before .before .before .before .args .percent) (length (c .before .before .before .before .before .before .before .before .before .before .args .out .now)) ≡ answered (numbers (c .before .t .given .0 .0))
-request-answered c = accepted-request _ _ _ _ _ (c .before .before .before .accept .ensures .0) _ (c .before .t .given .1)
+request-answered : (c : tie.After-known-told) →
+    let a = c .before .before .before .before .before .before .before .args in
+    requestOutcome (a .file .now) (a .plan .now) 0 (a .percent) (length (a .out .now)) ≡ answered (numbers (c .before .answer .given .0 .0))
+request-answered c = accepted-request _ _ _ _ _ (c .before .before .before .accept .ensures .outcome) _ (c .before .answer .given .1)
 
-request-proper : (c : tie.After-known-told) → Proper (c .before .before .before .before .before .before .before .before .before .before .args .file .now) (c .before .before .before .before .before .before .before .before .before .before .args .plan .now) 0 (c .before .before .before .before .before .before .before .before .before .before .args .percent) (length (c .before .before .before .before .before .before .before .before .before .before .args .out .now))
-request-proper c = accepted-proper _ _ _ _ _ (c .before .before .before .accept .ensures .0) _ (c .before .t .given .1)
+request-proper : (c : tie.After-known-told) →
+    let a = c .before .before .before .before .before .before .before .args in
+    Proper (a .file .now) (a .plan .now) 0 (a .percent) (length (a .out .now))
+request-proper c = accepted-proper _ _ _ _ _ (c .before .before .before .accept .ensures .outcome) _ (c .before .answer .given .1)
 
-request-scale : (c : tie.After-known-told) → c .before .t .given .0 .0 .scale ≡ scale (tableOf (c .before .before .before .before .before .before .before .before .before .before .args .file .now))
-request-scale c = accepted-scale _ _ _ _ _ (c .before .before .before .accept .ensures .0) _ (c .before .t .given .1)
+request-scale : (c : tie.After-known-told) → c .before .answer .given .0 .0 .scale ≡ scale (tableOf (c .before .before .before .before .before .before .before .args .file .now))
+request-scale c = accepted-scale _ _ _ _ _ (c .before .before .before .accept .ensures .outcome) _ (c .before .answer .given .1)
 
 -- no completion passes exactly where the top does not
-none-top : (c : tie.After-known-told) → let t = tableOf (c .before .before .before .before .before .before .before .before .before .before .args .file .now) in noneOf (passing t (c .before .before .before .before .before .before .before .before .before .before .args .percent)) (completions (c .before .before .before .before .before .before .before .before .before .before .args .plan .now)) ≡ not (passes t (c .before .before .before .before .before .before .before .before .before .before .args .percent) (upperBound t (c .before .before .before .before .before .before .before .before .before .before .args .plan .now)))
+none-top : (c : tie.After-known-told) →
+    let a = c .before .before .before .before .before .before .before .args in
+    let t = tableOf (a .file .now) in
+    noneOf (passing t (a .percent)) (completions (a .plan .now)) ≡ not (passes t (a .percent) (upperBound t (a .plan .now)))
 none-top c =
     let ok = request-proper c in
     none-passes _ (passed-formed (ok .passed)) (passed-monotone (ok .passed)) _ _
 
 -- the least score that passes
-least : (c : tie.After-least-passing) → LeastPassing (tableOf (c .before .before .before .before .before .before .before .before .before .before .before .before .before .before .before .args .file .now)) (c .before .before .before .before .before .before .before .before .before .before .before .before .before .before .before .args .percent) (c .least-passing .result)
-least c = c .least-passing .ensures _ (request-scale (c .before .before .before .before .before))
+least : (c : tie.After-least-passing) →
+    let a = c .before .before .before .before .before .before .before .before .before .before .before .before .before .before .args in
+    LeastPassing (tableOf (a .file .now)) (a .percent) (c .least-passing .result)
+least c = c .least-passing .ensures _ (request-scale (c .before .before .before .before .before .before .before))
 
 -- the top and the drops, as `force` wants them
-swept : (c : tie.After-least-passing) → Swept (tableOf (c .before .before .before .before .before .before .before .before .before .before .before .before .before .before .before .args .file .now)) (c .before .before .before .before .before .before .before .before .before .before .before .before .before .before .before .args .plan .now) (c .before .before .before .before .before .before .before .before .before .before .before .before .before .before .before .args .percent) (c .least-passing .result) (c .before .two-passes .result .bound) (c .before .two-passes .result .drops)
-swept c = request-swept (request-proper (c .before .before .before .before .before)) (least c) (c .before .two-passes .ensures .0) (c .before .two-passes .ensures .1)
+swept : (c : tie.After-least-passing) →
+    let a = c .before .before .before .before .before .before .before .before .before .before .before .before .before .before .args in
+    Swept (tableOf (a .file .now)) (a .plan .now) (a .percent) (c .least-passing .result) (c .before .two-passes .result .bound) (c .before .two-passes .result .drops)
+swept c = request-swept (request-proper (c .before .before .before .before .before .before .before)) (least c) (c .before .two-passes .ensures .0) (c .before .two-passes .ensures .1)
 
 accept-requires : tie.Need-accept-requires
 accept-requires c κs = search needs
 
-enum-known-t : tie.Need-enum-known-t
-enum-known-t c = search needs
+enum-known-answer : tie.Need-enum-known-answer
+enum-known-answer c = search needs
 
-enum-known-r : tie.Need-enum-known-r
-enum-known-r c = search needs
+enum-known-answer-2 : tie.Need-enum-known-answer-2
+enum-known-answer-2 c = search needs
 
 returns : tie.Need-returns
 unfolding filterOf
-returns c = filter-turned _ _ _ _ _ _ (refused-request _ _ _ _ _ (c .before .before .before .accept .ensures .0) _ (c .before .r .given .1))
+returns c = filter-turned _ _ _ _ _ _ (refused-request _ _ _ _ _ (c .before .before .before .accept .ensures .outcome) _ (c .before .answer2 .given .1))
 
 two-passes-requires : tie.Need-two-passes-requires
 two-passes-requires c κs =
-    let ok = request-proper (c .before .before .before) in
-    (ok .passed, ((ok .long, ok .legal), decoded-read _ _ _ (ok .read) (c .before .before .before .before .before .before .accept .ensures .1)))
+    let told = c .before .before .before .before .before in
+    let ok = request-proper told in
+    let table = told .before .before .before .accept .ensures .accepted _ (told .before .answer .given .1) in
+    (ok .passed, ((ok .long, ok .legal), decoded-read (table .0) (table .1 .held)))
 
 least-passing-requires : tie.Need-least-passing-requires
 least-passing-requires c κs =
-    let ok = request-proper (c .before .before .before .before) in
-    let scales = request-scale (c .before .before .before .before) in
-    (ok .percents, omega (arith, scales, passed-scale (ok .passed)))
+    let told = c .before .before .before .before .before .before in
+    let ok = request-proper told in
+    (ok .percents, omega (arith, request-scale told, passed-scale (ok .passed)))
 
 passes-requires : tie.Need-passes-requires
 passes-requires c κs = search needs
@@ -75,14 +88,15 @@ passes-requires c κs = search needs
 returns-2 : tie.Need-returns-2
 unfolding filterOf
 returns-2 c =
-    let at = c .before .before .before .before .before .before .before in
-    filter-31 _ _ _ _ _ (request-answered at) (none-top at) (c .before .before .before .two-passes .ensures .0)
+    let told = c .before .before .before .before .before .before .before .before .before in
+    filter-31 _ _ _ _ _ (request-answered told) (none-top told) (c .before .before .before .two-passes .ensures .0)
     (least (c .before .before) _ ∙ sym (c .before .passes .ensures) ∙ not-true _ (c .if1 .taken))
 
 force-requires : tie.Need-force-requires
 force-requires c κs =
-    let ok = request-proper (c .before .before .before .before .before .before .before .before .before .before) in
-    ((_, _, swept (c .before .before .before .before .before)), ok .sized ∙ sym (ok .long))
+    let at = c .before .before .before .before .before in
+    let ok = request-proper (at .before .before .before .before .before .before .before) in
+    ((_, _, swept at), ok .sized ∙ sym (ok .long))
 
 same-length : tie.Need-same-length
 same-length c = search needs
@@ -90,10 +104,12 @@ same-length c = search needs
 returns-3 : tie.Need-returns-3
 unfolding filterOf
 returns-3 c =
-    let at = c .before .before .before .before .before .before .before .before .before .before .before .before .before in
-    let forced = c .before .before .force .ensures _ _ (swept (c .before .before .before .before .before .before .before .before)) in
-    filter-done _ _ _ _ _ (request-answered at) (none-top at) (c .before .before .before .before .before .before .before .before .before .two-passes .ensures .0)
-    (least (c .before .before .before .before .before .before .before .before) _ ∙ sym (c .before .before .before .before .before .before .before .passes .ensures) ∙ not-false _ (c .before .before .before .before .before .before .if1 .left))
+    let else = c .before .before .before .before .before .before in
+    let at = else .before .before in
+    let told = at .before .before .before .before .before .before .before in
+    let forced = c .before .before .force .ensures _ _ (swept at) in
+    filter-done _ _ _ _ _ (request-answered told) (none-top told) (at .before .two-passes .ensures .0)
+    (least at _ ∙ sym (else .before .passes .ensures) ∙ not-false _ (else .if1 .left))
     (forced .0)
     (forced .1)
 
@@ -102,8 +118,8 @@ filter-spec =
     tie.close
     (tie.spec
     accept-requires
-    enum-known-t
-    enum-known-r
+    enum-known-answer
+    enum-known-answer-2
     returns
     two-passes-requires
     least-passing-requires

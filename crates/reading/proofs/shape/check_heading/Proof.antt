@@ -1,4 +1,5 @@
 -- `check_heading` meets its contract: its calls are the steps of its list. Assumes nothing.
+use mathlib.Core.Path.{refl}
 use Rattle.reading.proofs.Shaping.{heading-is}
 use borrow.Author.Needs.{needs}
 use Rattle.reading.proofs.shape.check_heading.Statement.{statement}
@@ -26,7 +27,7 @@ returns : tie.Need-returns
 returns c =
     let at-12 = c .before .before in
     let at-11 = at-12 .before .before in
-    heading-is _ (c .and-then3 .ensures) (c .before .count-fault .ensures) (at-12 .and-then2 .ensures) (at-12 .before .heading-fault .ensures) (at-11 .and-then .ensures) (at-11 .before .length-fault .ensures)
+    heading-is _ (c .and-then3 .ensures) refl (c .before .count-fault .ensures) (at-12 .and-then2 .ensures) refl (at-12 .before .heading-fault .ensures) (at-11 .and-then .ensures) refl (at-11 .before .length-fault .ensures)
 
 pub check-heading-spec : {M : Type 1} → statement M
 check-heading-spec =

@@ -1,4 +1,5 @@
 -- `check_records` meets its contract: what was found stands, and else its calls are the steps of its list. Assumes nothing.
+use mathlib.Core.Path.{refl}
 use Rattle.diagram.specs.Checks.{recordChecks}
 use Rattle.steps.proofs.Stepping.{refused-after}
 use Rattle.reading.proofs.Shaping.{records-are}
@@ -30,7 +31,7 @@ returns c = refused-after _ recordChecks _ (c .before .found .given .1)
 returns-2 : tie.Need-returns-2
 returns-2 c =
     let at-17 = c .before .before in
-    records-are _ (c .and-then2 .ensures) (c .before .root-fault .ensures) (at-17 .and-then .ensures) (at-17 .before .record-fault .ensures) (at-17 .before .before .enum-told .given .1)
+    records-are _ (c .and-then2 .ensures) refl (c .before .root-fault .ensures) (at-17 .and-then .ensures) refl (at-17 .before .record-fault .ensures) (at-17 .before .before .enum-told .given .1)
 
 pub check-records-spec : {M : Type 1} → statement M
 check-records-spec =

@@ -1,4 +1,5 @@
 -- `check_reward` meets its contract: what was found stands, and else its call is the step of its list. Assumes nothing.
+use mathlib.Core.Path.{refl}
 use Rattle.diagram.specs.Checks.{rewardChecks}
 use Rattle.steps.proofs.Stepping.{one-measured, measures-refused}
 use borrow.Author.Needs.{needs}
@@ -25,7 +26,7 @@ returns c = measures-refused _ rewardChecks _ _ 0 (c .before .found .given .1)
 returns-2 : tie.Need-returns-2
 returns-2 c =
     rw (c .before .before .enum-told .given .1)
-    (one-measured _ _ _ _ (c .and-within .ensures) (c .before .scale .ensures))
+    (one-measured _ _ _ _ (c .and-within .ensures) refl (c .before .scale .ensures))
 
 pub check-reward-spec : {M : Type 1} → statement M
 check-reward-spec =

@@ -1,4 +1,5 @@
 -- `check_variables` meets its contract: its calls are the steps of its list. Assumes nothing.
+use mathlib.Core.Path.{refl}
 use Rattle.reading.proofs.Shaping.{variables-are}
 use borrow.Author.Needs.{needs}
 use Rattle.reading.proofs.shape.check_variables.Statement.{statement}
@@ -19,7 +20,7 @@ and-within-requires c κs = search needs
 returns : tie.Need-returns
 returns c =
     let at-14 = c .before .before in
-    variables-are _ _ (c .and-within .ensures) (c .before .choices .ensures) (at-14 .and-then .ensures) (at-14 .before .variable-fault .ensures)
+    variables-are _ _ (c .and-within .ensures) refl (c .before .choices .ensures) (at-14 .and-then .ensures) refl (at-14 .before .variable-fault .ensures)
 
 pub check-variables-spec : {M : Type 1} → statement M
 check-variables-spec =

@@ -1,58 +1,64 @@
 -- How the checks that the services share decide a request, what is known of a request that none of them turns away, and how the outcome of each service
 -- follows from theirs.
 -- Assumes nothing.
-use Prim.Native.Nat.{ℕ, _≤_, _<_}
-use native.Mathlib.Decide.{ℕ-discrete, decLt}
+use Prim.Native.Nat.{ℕ, _≤_}
 use native.Mathlib.Omega.{arith}
 use mathlib.Core.Path.{_≡_, refl, ap, sym, _∙_}
-use mathlib.Core.Logic.{by-cases}
+use mathlib.Core.Bool.{Bool, true, false}
 use mathlib.Core.Option.{Option, none, some}
 use mathlib.Core.List.{List, [], _∷_, _++_}
 use lib.ListN.{length}
-use borrow.Author.Tests.{lt-ltb, le-ltb, eq-eqb, ne-eqb}
+use borrow.Author.Tests.{le-ltb, eq-eqb, eqb-true, ltb-false}
 use Rattle.diagram.specs.Table.{tableOf, choiceCount, scale}
-use Rattle.diagram.specs.Checks.{Check, placeZero, planMarkFault, percentFault, budgetFault, bufferFault, tableChecks, planChecks, percentChecks, budgetChecks, bufferChecks, sweepChecks, filterChecks, searchChecks}
-use Rattle.diagram.specs.Services.{Outcome, refused, answered, checked, Reading, reading, readOutcome, sweepOutcome, filtering, filterOutcome, searching, searchOutcome}
+use Rattle.diagram.specs.Checks.{Check, placeZero, planLengthFault, planMarkFault, fullPlanFault, percentFault, budgetFault, bufferFault, tableChecks, fullPlanChecks, planChecks, percentChecks, bufferChecks, scoreChecks, sweepChecks, filterChecks, searchChecks}
+use Rattle.diagram.specs.Services.{Outcome, refused, answered, checked, Reading, reading, readOutcome, scoreOutcome, sweepOutcome, filtering, filterOutcome, searching, searchOutcome}
+use Rattle.diagram.specs.Score.{score}
 use Rattle.diagram.specs.Plans.{upperBound, derivatives}
-use Rattle.diagram.proofs.Checked.{checked-passes, checked-stops, checked-end, checked-answered, checked-refused, read-refuses, read-answers, Passed, read-passed, read-reading}
-use Rattle.scoring.proofs.FullPlans.{Legal, legal-marks}
-use Rattle.scoring.proofs.Requests.{length-fits, length-differs}
 use Rattle.diagram.specs.declared.refusal.Refusal.{Refusal}
+use Rattle.diagram.proofs.Checked.{checked-passes, checked-stops, checked-answered, checked-refused, read-refuses, Passed, read-passed, read-reading, first, later}
+use Rattle.steps.specs.declared.verdict.Verdict.{Verdict}
+use Rattle.steps.specs.declared.verdict.Verdict.the-variants.{Passes, Refused}
+use Rattle.steps.specs.Steps.{findingAfter, finding}
+use Rattle.steps.proofs.Stepping.{passes-among, passes-next, request-passes, request-stops}
+use Rattle.decoding.proofs.Shape.{none-passes}
 use Rattle.reading.specs.declared.answer.Summary.{Summary}
 use Rattle.reading.specs.declared.answer.ReadAnswer.{ReadAnswer}
-use Rattle.reading.specs.Answer.{outcomeOf}
-use Rattle.reading.proofs.Outcomes.{numbers, table-as, table-read}
-use Rattle.sweep.specs.declared.answer.RequestAnswer.{RequestAnswer}
-use Rattle.sweep.specs.Answer.{requestOf}
-use Rattle.sweep.specs.Request.{requestOutcome}
+use Rattle.reading.specs.declared.answer.TableAnswer.{TableAnswer}
+use Rattle.reading.specs.Answer.{outcomeOf, Reads}
+use Rattle.reading.proofs.Outcomes.{numbers, refused-as, table-as, table-read}
+use Rattle.requesting.specs.Request.{requestChecks, requestOutcome}
+use Rattle.requesting.proofs.FullPlans.{Legal, legal-marks, full-closed, openTaken-same}
 
 -- ---------------------------------------------------------------------------
--- The checks 23 to 25
+-- The checks 21 and 23 to 25
+
+pub length-fits : (p s : List ℕ) → length p ≡ choiceCount (tableOf s .variables) → planLengthFault p s ≡ none
+unfolding planLengthFault placeZero
+length-fits p s e = rw (eq-eqb _ _ e) refl
 
 module _ (s : List ℕ) where
   percent-within : (percent : ℕ) → percent ≤ 100 → percentFault percent s ≡ none
   unfolding percentFault placeZero
   percent-within percent h = rw (le-ltb 100 percent h) refl
 
-  percent-above : (percent : ℕ) → 100 < percent → percentFault percent s ≡ some 0
-  unfolding percentFault placeZero
-  percent-above percent h = rw (lt-ltb 100 percent h) refl
-
   budget-within : (budget : ℕ) → budget ≤ 10020 → budgetFault budget s ≡ none
   unfolding budgetFault placeZero
   budget-within budget h = rw (le-ltb 10020 budget h) refl
-
-  budget-above : (budget : ℕ) → 10020 < budget → budgetFault budget s ≡ some 0
-  unfolding budgetFault placeZero
-  budget-above budget h = rw (lt-ltb 10020 budget h) refl
 
   buffer-fits : (size : ℕ) → size ≡ choiceCount (tableOf s .variables) → bufferFault size s ≡ none
   unfolding bufferFault placeZero
   buffer-fits size e = rw (eq-eqb _ _ e) refl
 
-  buffer-differs : (size : ℕ) → (size ≡ choiceCount (tableOf s .variables) → ⊥) → bufferFault size s ≡ some 0
-  unfolding bufferFault placeZero
-  buffer-differs size f = rw (ne-eqb _ _ f) refl
+none-false : (b : Bool) → placeZero b ≡ none → b ≡ false
+unfolding placeZero
+none-false false h = refl
+none-false true h =
+    let z : _≡_ {A = ℕ} 0 1 = cc in
+    absurd (omega arith)
+
+passes-none : (s : List ℕ) → finding [] s ≡ Passes
+unfolding findingAfter
+passes-none s = refl
 
 -- ---------------------------------------------------------------------------
 -- The steps of a request, and a request that no check turns away
@@ -71,41 +77,24 @@ module _ (s p : List ℕ) (budget percent size : ℕ) where
   unfolding requestOutcome searchChecks
   request-refused n i e = sym (read-refuses s _ _ n i e)
 
-  module _ (read : readOutcome s ≡ answered (reading s)) where
-    pub request-21 : (length p ≡ choiceCount (tableOf s .variables) → ⊥) → refused 21 0 ≡ requestOutcome s p budget percent size
+  -- by what is found of what comes with a file that reading answers
+  module _ (read : readOutcome s ≡ answered (reading s)) {v : Verdict} (e : v ≡ finding (requestChecks p budget percent size) s) where
+    pub request-found : v ≡ Passes → answered (reading s) ≡ requestOutcome s p budget percent size
     unfolding requestOutcome searchChecks
-    request-21 f = sym (read-answers s _ _ _ read ∙ checked-stops _ _ _ s 0 (length-differs p s f))
+    request-found q = sym (request-passes s (requestChecks p budget percent size) _ _ read e q)
 
-    module _ (long : length p ≡ choiceCount (tableOf s .variables)) where
-      pub request-22 : (i : ℕ) → planMarkFault p [] ≡ some i → refused 22 i ≡ requestOutcome s p budget percent size
-      unfolding requestOutcome searchChecks planMarkFault
-      request-22 i e = sym (read-answers s _ _ _ read ∙ checked-passes _ _ _ s (length-fits p s long) ∙ checked-stops _ _ _ s i e)
+    pub request-turned : (r : Refusal) → v ≡ Refused r → refused (r .number) (r .place) ≡ requestOutcome s p budget percent size
+    unfolding requestOutcome searchChecks
+    request-turned r q = sym (request-stops s (requestChecks p budget percent size) _ _ read e r q)
 
-      module _ (marks : planMarkFault p [] ≡ none) where
-        -- the checks after 22
-        from-23 : requestOutcome s p budget percent size ≡ checked (percentChecks percent ++ budgetChecks budget ++ bufferChecks size) (λ file. answered (reading file)) s
-        unfolding requestOutcome searchChecks planMarkFault
-        from-23 = read-answers s _ _ _ read ∙ checked-passes _ _ _ s (length-fits p s long) ∙ checked-passes _ _ _ s marks
-
-        pub request-23 : 100 < percent → refused 23 0 ≡ requestOutcome s p budget percent size
-        request-23 h = sym (from-23 ∙ checked-stops _ _ _ s 0 (percent-above s percent h))
-
-        module _ (percents : percent ≤ 100) where
-          pub request-24 : 10020 < budget → refused 24 0 ≡ requestOutcome s p budget percent size
-          request-24 h =
-              sym (from-23 ∙ checked-passes _ _ _ s (percent-within s percent percents) ∙ checked-stops _ _ _ s 0 (budget-above s budget h))
-
-          module _ (budgets : budget ≤ 10020) where
-            -- the last check
-            from-25 : requestOutcome s p budget percent size ≡ checked (bufferChecks size) (λ file. answered (reading file)) s
-            from-25 =
-                from-23 ∙ checked-passes _ _ _ s (percent-within s percent percents) ∙ checked-passes _ _ _ s (budget-within s budget budgets)
-
-            pub request-25 : (size ≡ choiceCount (tableOf s .variables) → ⊥) → refused 25 0 ≡ requestOutcome s p budget percent size
-            request-25 f = sym (from-25 ∙ checked-stops _ _ _ s 0 (buffer-differs s size f))
-
-            pub request-accepted : size ≡ choiceCount (tableOf s .variables) → answered (reading s) ≡ requestOutcome s p budget percent size
-            request-accepted e = sym (from-25 ∙ checked-passes _ _ _ s (buffer-fits s size e) ∙ checked-end _ s)
+  pub request-accepted : readOutcome s ≡ answered (reading s) → length p ≡ choiceCount (tableOf s .variables) → planMarkFault p [] ≡ none → percent ≤ 100 → budget ≤ 10020 → size ≡ choiceCount (tableOf s .variables) → answered (reading s) ≡ requestOutcome s p budget percent size
+  unfolding planMarkFault
+  request-accepted read long marks percents budgets sized =
+      request-found read refl
+      (passes-next _ _ s (length-fits p s long)
+      (passes-next _ _ s marks
+      (passes-next _ _ s (percent-within s percent percents)
+      (passes-next _ _ s (budget-within s budget budgets) (passes-next _ [] s (buffer-fits s size sized) (passes-none s))))))
 
   module _ (r : Reading) (e : requestOutcome s p budget percent size ≡ answered r) where
     -- a request with an answer is not refused
@@ -121,29 +110,33 @@ module _ (s p : List ℕ) (budget percent size : ℕ) where
         go (refused n i) q = absurd (turned n i (request-refused n i q))
         go (answered a) q = q ∙ ap answered (read-reading s a q)
 
-    is-long : length p ≡ choiceCount (tableOf s .variables)
-    is-long = by-cases (ℕ-discrete (length p) (choiceCount (tableOf s .variables))) (λ h. h) (λ f. absurd (turned 21 0 (request-21 is-read f)))
-
-    has-marks : planMarkFault p [] ≡ none
-    has-marks = go (planMarkFault p []) refl
+    none-found : finding (requestChecks p budget percent size) s ≡ Passes
+    none-found = go (finding (requestChecks p budget percent size) s) refl
       where
-        go : (o : Option ℕ) → planMarkFault p [] ≡ o → planMarkFault p [] ≡ none
-        go none q = q
-        go (some i) q = absurd (turned 22 i (request-22 is-read is-long i q))
+        go : (v : Verdict) → finding (requestChecks p budget percent size) s ≡ v → finding (requestChecks p budget percent size) s ≡ Passes
+        go Passes q = q
+        go (Refused x) q = absurd (turned (x .number) (x .place) (request-turned is-read refl x q))
+
+    is-long : length p ≡ choiceCount (tableOf s .variables)
+    unfolding planLengthFault
+    is-long = eqb-true _ _ (none-passes _ (passes-among Passes s refl none-found 21 (planLengthFault p) first))
+
+    has-marks : planMarkFault p s ≡ none
+    has-marks = passes-among Passes s refl none-found 22 (planMarkFault p) (search (first, later) depth 20)
 
     percent-small : percent ≤ 100
+    unfolding percentFault
     percent-small =
-        by-cases (decLt 100 percent) (λ h. absurd (turned 23 0 (request-23 is-read is-long has-marks h))) (λ f. omega arith)
+        ltb-false 100 percent (none-false _ (passes-among Passes s refl none-found 23 (percentFault percent) (search (first, later) depth 20)))
 
     budget-small : budget ≤ 10020
+    unfolding budgetFault
     budget-small =
-        by-cases (decLt 10020 budget) (λ h. absurd (turned 24 0 (request-24 is-read is-long has-marks percent-small h))) (λ f. omega arith)
+        ltb-false 10020 budget (none-false _ (passes-among Passes s refl none-found 24 (budgetFault budget) (search (first, later) depth 20)))
 
     is-sized : size ≡ choiceCount (tableOf s .variables)
-    is-sized =
-        by-cases (ℕ-discrete size (choiceCount (tableOf s .variables)))
-        (λ h. h)
-        (λ f. absurd (turned 25 0 (request-25 is-read is-long has-marks percent-small budget-small f)))
+    unfolding bufferFault
+    is-sized = eqb-true _ _ (none-passes _ (passes-among Passes s refl none-found 25 (bufferFault size) (search (first, later) depth 20)))
 
     pub proper : Proper s p budget percent size
     proper =
@@ -151,7 +144,7 @@ module _ (s p : List ℕ) (budget percent size : ℕ) where
           read = is-read;
           passed = read-passed s _ is-read;
           long = is-long;
-          legal = legal-marks p [] has-marks;
+          legal = legal-marks p s has-marks;
           percents = percent-small;
           budgets = budget-small;
           sized = is-sized;
@@ -169,15 +162,24 @@ module _ (s p : List ℕ) (budget percent size : ℕ) where
 pub table-answered : (s : List ℕ) {r : ReadAnswer} → outcomeOf r ≡ readOutcome s → (t : Summary) → r ≡ ReadAnswer.Table t → answered (numbers t) ≡ answered (reading s)
 table-answered s promise t e = sym (table-as promise t e) ∙ table-read s promise t e
 
-module _ (s p : List ℕ) (budget percent size : ℕ) {r : RequestAnswer} (promise : requestOf r ≡ requestOutcome s p budget percent size) where
-  pub refused-request : (x : Refusal) → r ≡ RequestAnswer.Refused x → requestOutcome s p budget percent size ≡ refused (x .number) (x .place)
-  unfolding requestOf
-  refused-request x e = sym (rw e at promise)
+-- what `read_table` hands out is handed out for a request that passes
+module _ (s p : List ℕ) (budget percent size : ℕ) {r : TableAnswer} (read : Reads s (readOutcome s) r) where
+  pub reads-found : (t : Summary) → r .answer ≡ ReadAnswer.Table t → {v : Verdict} → v ≡ finding (requestChecks p budget percent size) s → v ≡ Passes → Reads s (requestOutcome s p budget percent size) r
+  reads-found t e found q =
+      let answered-read = table-read s (read .outcome) t e in
+      record {
+        outcome = read .outcome ∙ answered-read ∙ request-found s p budget percent size answered-read found q;
+        accepted = read .accepted;
+        refused = read .refused;
+      }
 
-  module _ (t : Summary) (e : r ≡ RequestAnswer.Accepted t) where
+module _ (s p : List ℕ) (budget percent size : ℕ) {r : ReadAnswer} (promise : outcomeOf r ≡ requestOutcome s p budget percent size) where
+  pub refused-request : (x : Refusal) → r ≡ ReadAnswer.Refused x → requestOutcome s p budget percent size ≡ refused (x .number) (x .place)
+  refused-request = refused-as promise
+
+  module _ (t : Summary) (e : r ≡ ReadAnswer.Table t) where
     pub accepted-request : requestOutcome s p budget percent size ≡ answered (numbers t)
-    unfolding requestOf
-    accepted-request = sym (rw e at promise)
+    accepted-request = table-as promise t e
 
     pub accepted-proper : Proper s p budget percent size
     accepted-proper = proper s p budget percent size (numbers t) accepted-request
@@ -242,3 +244,31 @@ module _ (s p : List ℕ) (size : ℕ) where
       pub search-answered : (r : Reading) → requestOutcome s p budget percent size ≡ answered r → searchOutcome s p budget percent size ≡ searching (tableOf s) budget percent p
       unfolding requestOutcome searchOutcome
       search-answered r e = checked-answered s _ reading r _ e
+
+-- ---------------------------------------------------------------------------
+-- The score
+
+module _ (s p : List ℕ) where
+  pub score-refused : (n i : ℕ) → readOutcome s ≡ refused n i → refused n i ≡ scoreOutcome s p
+  unfolding scoreOutcome scoreChecks
+  score-refused n i e = sym (read-refuses s _ _ n i e)
+
+  -- by what is found of the plan
+  module _ {v : Verdict} (e : v ≡ finding (fullPlanChecks p) s) where
+    pub score-turned : readOutcome s ≡ answered (reading s) → (r : Refusal) → v ≡ Refused r → refused (r .number) (r .place) ≡ scoreOutcome s p
+    unfolding scoreOutcome scoreChecks
+    score-turned read r q = sym (request-stops s (fullPlanChecks p) _ _ read e r q)
+
+    pub plan-long : v ≡ Passes → length p ≡ choiceCount (tableOf s .variables)
+    unfolding planLengthFault
+    plan-long q = eqb-true _ _ (none-passes _ (passes-among Passes s e q 21 (planLengthFault p) first))
+
+    pub plan-full : v ≡ Passes → fullPlanFault p s ≡ none
+    plan-full q = passes-among Passes s e q 22 (fullPlanFault p) (search (first, later) depth 20)
+
+    pub score-answered : readOutcome s ≡ answered (reading s) → v ≡ Passes → (x : ℕ) → x ≡ upperBound (tableOf s) p → answered x ≡ scoreOutcome s p
+    unfolding scoreOutcome scoreChecks upperBound
+    score-answered read q x h =
+        let same = openTaken-same p (full-closed p s (plan-full q)) in
+        let is : x ≡ score (tableOf s) p = h ∙ rw same in
+        ap answered is ∙ sym (request-passes s (fullPlanChecks p) _ _ read e q)

@@ -12,8 +12,8 @@ use borrow.Author.Tests.{lt-ltb, le-ltb}
 use Rattle.diagram.specs.Checks.{firstPlace, planMarkFault}
 use Rattle.diagram.proofs.Places.{place-start, place-here, place-next, place-end}
 use Rattle.steps.specs.Steps.{faultOf}
-use Rattle.scoring.proofs.plans.mark_fault.Statement.{statement}
-use Rattle.scoring.proofs.plans.mark_fault.Tie as tie
+use Rattle.requesting.proofs.plans.mark_fault.Statement.{statement}
+use Rattle.requesting.proofs.plans.mark_fault.Tie as tie
 
 -- mark i is above 2
 abbrev wrong : (plan : List ℕ) → ℕ → Bool

@@ -1,0 +1,2 @@
+-- The checks of what comes with a file.
+pub mod Request
