@@ -4,19 +4,21 @@ use Prim.Native.Nat.{ℕ, zero, suc, _+_, _-_, _≤_, _<_}
 use native.Mathlib.Nat.{zero-add}
 use native.Mathlib.Omega.{arith}
 use mathlib.Core.Path.{_≡_, refl, ap, sym, _∙_}
-use mathlib.Core.List.{List, _∷_}
+use mathlib.Core.Bool.{true}
+use mathlib.Core.List.{List, [], _∷_}
 use lib.ListN.{length, getD, take}
 use lib.Seq.{ext-getD}
 use Rattle.diagram.specs.Words.{wordAt}
-use Rattle.diagram.specs.Table.{Variable, chance, Record, Root, Table, sequence, variableOf, recordOf, recordAt, variableCount, recordCount, choiceCount, tableOf, scale}
+use Rattle.diagram.specs.Table.{Variable, choice, chance, Record, Root, Table, sequence, isChoice, variableOf, recordOf, recordAt, variableCount, recordCount, choiceCount, tableOf, scale}
 use Rattle.diagram.proofs.Places.{sequence-length, sequence-at, sequence-past}
 use Rattle.decoding.specs.declared.table.Decoded.{Decoded}
 use Rattle.decoding.specs.Nodes.{column}
-use Rattle.decoding.specs.Decoding.{padTo, choicePositions, rootAt, rootNodes, rootRewards, variablesIn, recordsIn, rootsIn, tableIn, Held}
+use Rattle.decoding.specs.Decoding.{padTo, positionsFrom, choicePositions, rootAt, rootNodes, rootRewards, variablesIn, recordsIn, rootsIn, tableIn, Held}
 use Rattle.decoding.proofs.Choosing.{variables-length}
 use Rattle.decoding.proofs.Shape.{record-at-word}
 use Rattle.decoding.proofs.Columns.{column-at}
 use Rattle.decoding.proofs.Kits.{kits-length}
+use Rattle.decoding.proofs.Finding.{positions-length}
 use Rattle.decoding.proofs.Padding.{pad-at, pad-take}
 
 -- ---------------------------------------------------------------------------
@@ -67,6 +69,37 @@ module _ (d : Decoded) where
   pub record-in-past : (k : ℕ) → d .records ≤ k → recordAt (tableIn d .records) k ≡ record { position = 0; hi = 0; lo = 0 }
   unfolding tableIn recordsIn recordAt
   record-in-past k h = sequence-past _ 0 (d .records) k _ h
+
+-- ---------------------------------------------------------------------------
+-- The positions of choices
+
+-- Position x of some variables is that of choice i
+pub record ChoiceAt (vs : List Variable) (i x : ℕ) : Type 0 where
+  pub within : x < length vs
+  pub is : isChoice (getD vs x (chance 0 1)) ≡ true
+  pub number : choiceCount (take x vs) ≡ i
+
+choice-from : (x : ℕ) (vs : List Variable) (i : ℕ) → i < choiceCount vs → (y : ℕ) × (getD (positionsFrom x vs) i 0 ≡ x + y) × ChoiceAt vs i y
+unfolding choiceCount positionsFrom isChoice
+choice-from x [] i h = absurd (omega arith)
+choice-from x (choice ∷ vs) zero h = (0, omega arith, record { within = omega arith; is = refl; number = refl })
+choice-from x (choice ∷ vs) (suc i) h =
+    let rest = choice-from (suc x) vs i (omega arith) in
+    let at = rest .2 in
+    (suc (rest .0), omega (arith, rest .1), record { within = omega (arith, at .within); is = at .is; number = ap suc (at .number) })
+choice-from x (chance a b ∷ vs) i h =
+    let rest = choice-from (suc x) vs i h in
+    let at = rest .2 in
+    (suc (rest .0), omega (arith, rest .1), record { within = omega (arith, at .within); is = at .is; number = at .number })
+
+-- the place of choice i
+pub place-in : {d : Decoded} → Held d → (i : ℕ) → i < d .choices → ChoiceAt (tableIn d .variables) i (getD (d .places) i 0)
+unfolding choicePositions
+place-in {d} h i l =
+    let vs = tableIn d .variables in
+    let at = choice-from 0 vs i (omega (arith, h .choices)) in
+    let here : getD (d .places) i 0 ≡ at .0 = ap (λ (cells : List ℕ). getD cells i 0) (h .places) ∙ pad-at 20 (positionsFrom 0 vs) i (omega (arith, positions-length 0 vs, h .choices)) ∙ at .1 ∙ zero-add (at .0) in
+    rw here (at .2)
 
 -- ---------------------------------------------------------------------------
 -- The parts of a file

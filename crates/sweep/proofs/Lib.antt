@@ -4,6 +4,5 @@ pub mod ForcedLines
 pub mod Transposing
 pub mod RootWeights
 pub mod Summing
-pub mod Gathering
 pub mod Leaving
 pub mod Deriving

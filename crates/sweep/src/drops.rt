@@ -1,8 +1,6 @@
 // The drops, summed up from the values of the nodes and their path weights.
 use decoding::child_of;
-use decoding::is_choice;
 use decoding::position_of;
-use decoding::variable_count;
 use diagram::Node;
 use diagram::Plan;
 use diagram::Position;
@@ -11,9 +9,9 @@ use scoring::value_of;
 ghost use mathlib.Core.Path.{_≡_};
 ghost use Prim.Native.Nat.{ℕ, _+_, _-_, _*_, _≤_, _<_, _^_};
 ghost use lib.ListN.{length, getD, set, replicate};
-ghost use Rattle.diagram.specs.Table.{tableOf, sequence, variableCount, choiceCount};
+ghost use Rattle.diagram.specs.Table.{sequence};
 ghost use Rattle.scoring.specs.Passes.{over};
-ghost use Rattle.sweep.specs.Drops.{lossSum, Losing, Chosen};
+ghost use Rattle.sweep.specs.Drops.{lossSum, Losing};
 
 // What leaving each open line would lose, by position, and 0 at every other position. The values and weights are those of a
 // pass up and a pass down.
@@ -69,22 +67,17 @@ fn lose(drops: &mut [u64; 64], at: Position, x: u64)
     drops[i] = drops[i] + x;
 }
 
-// The cells of the choices' positions, by choice number; the places after the last choice are 0. The file has passed every
-// check.
-pub fn by_choice(file: &[u8], cells: &[u64; 64]) -> [u64; 20]
-    requires { ⌜ (variableCount (now file) < 64) × (choiceCount (tableOf (now file) .variables) ≤ 20) ⌝ }
-    ensures { λ r. ⌜ ((f : ℕ → ℕ) → Chosen (tableOf (now (file .entry))) f (now (cells .entry)) → r ≡ over (sequence f 0 (choiceCount (tableOf (now (file .entry)) .variables))) (replicate 20 0)) ⌝ }
+// The cells of the first n choices' positions, by choice number; the places after the last choice are 0.
+pub fn by_choice(n: usize, places: &[u8; 20], cells: &[u64; 64]) -> [u64; 20]
+    requires { ⌜ (n ≤ 20) × ((i : ℕ) → i < n → getD (now places) i 0 < 64) ⌝ }
+    ensures { λ r. ⌜ r ≡ over (sequence (λ (i : ℕ). getD (now (cells .entry)) (getD (now (places .entry)) i 0) 0) 0 n) (replicate 20 0) ⌝ }
 {
-    let v = variable_count(file);
     let mut numbers = [0u64; 20];
-    let mut choice = 0;
-    let mut p = 0;
-    while p < v {
-        if is_choice(file, Position::new(p)) {
-            numbers[choice] = cells[p as usize];
-            choice += 1;
-        }
-        p += 1;
+    let mut i = 0;
+    while i < n {
+        let x = places[i] as usize;
+        numbers[i] = cells[x];
+        i += 1;
     }
     numbers
 }

@@ -33,7 +33,7 @@ pub fn sweep(file: &[u8], plan: &[u8], drops: &mut [u64]) -> SweepAnswer
         return SweepAnswer::Refused(r);
     }
     let t = found.table;
-    let swept = two_passes(file, plan, &t.positions, &t.high, &t.low);
+    let swept = two_passes(t, plan);
     let numbers = swept.drops;
     copy(&numbers, drops);
     SweepAnswer::Bound(swept.bound)
@@ -64,7 +64,7 @@ pub fn filter(file: &[u8], plan: &[u8], percent: u32, out: &mut [u8]) -> FilterA
         ReadAnswer::Refused(r) => return FilterAnswer::Refused(r),
     };
     let t = found.table;
-    let swept = two_passes(file, plan, &t.positions, &t.high, &t.low);
+    let swept = two_passes(t, plan);
     let least = least_passing(percent, numbers.scale);
     if !passes(least, swept.bound) {
         return FilterAnswer::Refused(Refusal {

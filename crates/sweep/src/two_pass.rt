@@ -3,7 +3,7 @@ use crate::down::enter;
 use crate::down::pass_down;
 use crate::drops::by_choice;
 use crate::drops::drops_by_position;
-use decoding::record_count;
+use decoding::Decoded;
 use scoring::Roots;
 use scoring::in_force;
 use scoring::lay_out;
@@ -14,11 +14,11 @@ ghost use mathlib.Core.Path.{_≡_};
 ghost use mathlib.Core.List.{List};
 ghost use Prim.Native.Nat.{ℕ, _≤_};
 ghost use lib.ListN.{length, getD, replicate};
-ghost use Rattle.diagram.specs.Table.{Table, sequence, tableOf, choiceCount};
+ghost use Rattle.diagram.specs.Table.{Table, sequence, choiceCount};
 ghost use Rattle.diagram.specs.Plans.{upperBound, derivatives};
-ghost use Rattle.diagram.proofs.Checked.{Passed};
 ghost use Rattle.diagram.proofs.Rising.{Monotone};
-ghost use Rattle.scoring.specs.Passes.{over, Decoded, RootsHeld, Marked};
+ghost use Rattle.decoding.specs.Decoding.{tableIn, Sound};
+ghost use Rattle.scoring.specs.Passes.{over, RootsHeld, Marked};
 ghost use Rattle.sweep.specs.Drops.{derivativeAt};
 
 // The top of a plan and the drops of its choices, by choice number; the places after the last choice are 0.
@@ -33,31 +33,22 @@ pub struct ByPosition {
     pub drops: [u64; 64],
 }
 
-// The top and the drops of a file that has passed every check and a plan that the checks 21 and 22 let through. The arrays hold
-// the file's records, as `accept` leaves them.
-pub fn two_passes<'a>(
-    file: &[u8],
-    plan: &[u8],
-    positions: &'a [u8; 256],
-    high: &'a [u8; 256],
-    low: &'a [u8; 256],
-) -> Sweep
-    requires passed { ⌜ Passed (now file) ⌝ }
-    requires plan { ⌜ (length (now plan) ≡ choiceCount (tableOf (now file) .variables)) × ((i : ℕ) → getD (now plan) i 0 ≤ 2) ⌝ }
-    requires records { ⌜ Decoded (now file) (now positions) (now high) (now low) ⌝ }
-    ensures bound { λ r. ⌜ r .bound ≡ upperBound (tableOf (now (file .entry))) (now (plan .entry)) ⌝ }
-    ensures drops { λ r. ⌜ r .drops ≡ over (derivatives (tableOf (now (file .entry))) (now (plan .entry))) (replicate 20 0) ⌝ }
+// The top and the drops of an accepted table and a plan that the checks 21 and 22 let through.
+pub fn two_passes(table: Decoded, plan: &[u8]) -> Sweep
+    requires sound { ⌜ Sound table ⌝ }
+    requires plan { ⌜ (length (now plan) ≡ choiceCount (tableIn table .variables)) × ((i : ℕ) → getD (now plan) i 0 ≤ 2) ⌝ }
+    ensures bound { λ r. ⌜ r .bound ≡ upperBound (tableIn table) (now (plan .entry)) ⌝ }
+    ensures drops { λ r. ⌜ r .drops ≡ over (derivatives (tableIn table) (now (plan .entry))) (replicate 20 0) ⌝ }
 {
-    let n = record_count(file);
     let mut high_arcs = [0u64; 256];
     let mut low_arcs = [0u64; 256];
-    let roots = lay_out(file, n, positions, high, low, &mut high_arcs, &mut low_arcs);
-    let marks = marks_by_position(file, plan);
+    let roots = lay_out(table, &mut high_arcs, &mut low_arcs);
+    let marks = marks_by_position(table, plan);
     let swept = up_and_down(
-        n,
-        positions,
-        high,
-        low,
+        table.records,
+        &table.positions,
+        &table.high,
+        &table.low,
         &high_arcs,
         &low_arcs,
         &marks,
@@ -66,17 +57,17 @@ pub fn two_passes<'a>(
     let drops = swept.drops;
     Sweep {
         bound: swept.bound,
-        drops: by_choice(file, &drops),
+        drops: by_choice(table.choices, &table.places, &drops),
     }
 }
 
 // One pass up gives the values of the nodes, one pass down their path weights, from what the roots bring. The arrays hold a
 // monotone table, its roots and a plan, as `read_records`, `lay_out` and `marks_by_position` leave them.
-fn up_and_down(
+fn up_and_down<'a>(
     n: usize,
-    positions: &[u8; 256],
-    high: &[u8; 256],
-    low: &[u8; 256],
+    positions: &'a [u8; 256],
+    high: &'a [u8; 256],
+    low: &'a [u8; 256],
     high_arcs: &[u64; 256],
     low_arcs: &[u64; 256],
     marks: &[u8; 64],

@@ -3,7 +3,6 @@ use native.Mathlib.Omega.{arith}
 use lib.ListN.{length}
 use Rattle.reading.proofs.Accepted.{passed-choices}
 use Rattle.requesting.proofs.Requests.{Proper, refused-request, accepted-request, accepted-proper}
-use Rattle.scoring.proofs.Requests.{decoded-read}
 use Rattle.sweep.specs.Answer.{sweepOf}
 use Rattle.sweep.proofs.Serving.{sweep-turned, sweep-done}
 use borrow.Author.Needs.{needs}
@@ -31,14 +30,14 @@ enum-told c = search needs
 
 two-passes-requires : tie.Need-two-passes-requires
 two-passes-requires c κs =
-    let told = c .before .before .before .before .before in
+    let told = c .before in
     let ok = request-proper told in
     let table = told .before .before .accept .ensures .accepted _ (told .enum-told .given .1) in
-    (ok .passed, ((ok .long, ok .legal), decoded-read (table .0) (table .1 .held)))
+    (table .1, (rw (table .0) (ok .long), ok .legal))
 
 copy-requires : tie.Need-copy-requires
 copy-requires c κs =
-    let ok = request-proper (c .before .before .before .before .before .before .before .before .before) in
+    let ok = request-proper (c .before .before .before .before .before) in
     (search needs, omega (arith, passed-choices (ok .passed)))
 
 same-length : tie.Need-same-length
@@ -47,11 +46,12 @@ same-length c = search needs
 returns-2 : tie.Need-returns-2
 unfolding sweepOf
 returns-2 c =
-    let told = c .before .before .before .before .before .before .before .before .before .before .before .before in
+    let told = c .before .before .before .before .before .before .before .before in
     let swept = c .before .before .before .before .before .before .two-passes .ensures in
+    let stands = told .before .before .accept .ensures .accepted _ (told .enum-told .given .1) .0 in
     sweep-done _ _ _ _ (accepted-request _ _ _ _ _ (told .before .before .accept .ensures .outcome) _ (told .enum-told .given .1))
-    (swept .0)
-    (swept .1)
+    (rw stands at (swept .0))
+    (rw stands at (swept .1))
     (c .before .before .copy .ensures)
 
 pub sweep-spec : {M : Type 1} → statement M

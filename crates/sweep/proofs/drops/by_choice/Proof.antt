@@ -1,77 +1,76 @@
--- `by_choice` meets its contract. The loop's invariant: the choices among the first p variables are counted, and their cells stand in front
--- (`Gathered`). The measure is the number of variables left. Assumes nothing.
-use Prim.Native.Nat.{_-_, _<_}
+-- `by_choice` meets its contract. The loop's invariant: the cells of the first i choices stand in front. The measure is the number of choices left.
+-- Assumes nothing.
+use Prim.Native.Nat.{ℕ, _+_, _-_, _≤_, _<_}
+use native.Mathlib.Nat.{zero-add}
+use native.Mathlib.Numerals.{add-one}
 use native.Mathlib.Omega.{arith}
 use mathlib.Core.Path.{_≡_, refl, _∙_}
-use mathlib.Core.Logic.{⊎-elim}
-use Rattle.diagram.specs.Table.{isChoice, variableCount}
-use Rattle.reading.proofs.Counting.{next}
-use Rattle.sweep.proofs.Gathering.{Gathered, gathered-start, tested-at, choice-less, gathered-choice, gathered-chance, gathered-end}
+use mathlib.Core.List.{List, [], _∷_, _++_}
+use lib.ListN.{getD, replicate}
+use borrow.Author.Needs.{needs}
+use Rattle.diagram.specs.Table.{sequence}
+use Rattle.diagram.proofs.Places.{sequence-length, sequence-snoc}
+use Rattle.scoring.specs.Passes.{over}
+use Rattle.scoring.proofs.Over.{over-next}
 use Rattle.sweep.proofs.drops.by_choice.Statement.{statement}
 use Rattle.sweep.proofs.drops.by_choice.Tie as tie
 
+-- the cell of choice i
+abbrev cell : (places cells : List ℕ) → ℕ → ℕ
+cell places cells i = getD cells (getD places i 0) 0
+
 abbrev Inv-loop : tie.InvT-loop
-Inv-loop file cells v numbers₀ choice₀ p₀ numbers choice p = Gathered file cells p choice numbers
+Inv-loop n places cells numbers₀ i₀ numbers i = (i ≤ n) × (n ≤ 20) × (numbers ≡ over (sequence (cell places cells) 0 i) (replicate 20 0))
 
 abbrev μ-loop : tie.MeasureT-loop
-μ-loop file cells v numbers₀ choice₀ p₀ numbers choice p = v - p
-
--- the test of a turn
-tested : (c : tie.After-is-choice Inv-loop μ-loop) → isChoice (next (c .before .before .before .before .before .before .args .file .now) (c .before .before .before .loop .p)) ≡ c .is-choice .result
-tested c = tested-at _ _ (c .before .new .ensures) (c .is-choice .ensures)
-
-variable-count-requires : tie.Need-variable-count-requires Inv-loop μ-loop
-variable-count-requires c κs = tt
+μ-loop n places cells numbers₀ i₀ numbers i = n - i
 
 loop-holds : tie.Need-loop-holds Inv-loop μ-loop
-loop-holds c = gathered-start _ _
+unfolding over sequence
+loop-holds c = (omega arith, c .pre .0, refl)
 
-new-requires : tie.Need-new-requires Inv-loop μ-loop
-new-requires c κs = tt
+-- the choice's position
+within : (c : tie.In-loop Inv-loop μ-loop) → getD (c .before .before .args .places .now) (c .before .loop .i) 0 < 64
+within c = c .before .before .pre .1 _ (c .loop-test .taken)
 
-is-choice-requires : tie.Need-is-choice-requires Inv-loop μ-loop
-is-choice-requires c κs = tt
+element-copy-out-x : tie.Need-element-copy-out-x Inv-loop μ-loop
+element-copy-out-x c = omega (arith, c .before .loop .inv .1)
 
-cast-numbers : tie.Need-cast-numbers Inv-loop μ-loop
-cast-numbers c = omega arith
+cast-x : tie.Need-cast-x Inv-loop μ-loop
+cast-x c = omega (arith, within (c .before))
 
 mul-numbers : tie.Need-mul-numbers Inv-loop μ-loop
-mul-numbers c = omega arith
+mul-numbers c = omega (arith, within (c .before))
 
 element-copy-out-numbers : tie.Need-element-copy-out-numbers Inv-loop μ-loop
-element-copy-out-numbers c = omega arith
-
-array-write-numbers : tie.Need-array-write-numbers Inv-loop μ-loop
-array-write-numbers c =
-    let at = c .before .before .before .before .before in
-    choice-less _ _ (at .loop .inv) (omega arith) (at .before .before .before .pre .1) (tested (c .before .before) ∙ c .before .if1 .taken)
+element-copy-out-numbers c = within (c .before)
 
 mul-numbers-2 : tie.Need-mul-numbers-2 Inv-loop μ-loop
-mul-numbers-2 c = omega (arith, array-write-numbers c)
+mul-numbers-2 c = omega (arith, c .before .before .before .loop .inv .1)
 
-add-choice : tie.Need-add-choice Inv-loop μ-loop
-add-choice c = omega (arith, array-write-numbers c)
+array-write-numbers : tie.Need-array-write-numbers Inv-loop μ-loop
+array-write-numbers c = omega (arith, c .before .before .before .loop .inv .1)
 
-add-p : tie.Need-add-p Inv-loop μ-loop
-add-p c = omega arith
+add-i : tie.Need-add-i Inv-loop μ-loop
+add-i c = search needs
 
 loop-less : tie.Need-loop-less Inv-loop μ-loop
-loop-less c = omega arith
+loop-less c = search needs
 
 loop-again : tie.Need-loop-again Inv-loop μ-loop
 loop-again c =
-    let at = c .before .before .before .before in
-    let start = at .before .before .before in
-    let s = start .args .file .now in
-    let cells = start .args .cells .now in
-    let h : at .loop .p < variableCount s = omega arith in
-    ⊎-elim
-    (λ w. rw (w .2, w .3) (gathered-choice s cells (at .loop .inv) h (start .pre .1) (tested (c .before) ∙ w .0 .taken) refl))
-    (λ w. rw (w .1, w .2) (gathered-chance s cells (at .loop .inv) h (tested (c .before) ∙ w .0 .left)))
-    (c .if1 .came)
+    let inv = c .before .before .before .loop .inv in
+    let i = c .before .before .before .loop .i in
+    let start = c .before .before .before .before in
+    let f : ℕ → ℕ = cell (start .args .places .now) (start .args .cells .now) in
+    let snoc : sequence f 0 i ++ (f i ∷ []) ≡ sequence f 0 (i + 1) = rw (add-one i) (rw zero-add at (sequence-snoc f 0 i)) in
+    (omega arith, inv .1, rw (inv .2, ← snoc) (over-next (sequence f 0 i) (replicate 20 0) i (f i) (sequence-length f 0 i) (omega (arith, inv .1))))
 
 returns : tie.Need-returns Inv-loop μ-loop
-returns c = gathered-end _ _ (c .before .loop .inv) (omega arith)
+returns c =
+    let inv = c .before .loop .inv in
+    let all : c .before .loop .i ≡ c .before .before .args .n = omega (arith, inv .0) in
+    rw all at (inv .2)
 
 pub by-choice-spec : {M : Type 1} → statement M
 by-choice-spec =
@@ -79,17 +78,14 @@ by-choice-spec =
     (tie.spec
     Inv-loop
     μ-loop
-    variable-count-requires
     loop-holds
-    new-requires
-    is-choice-requires
-    cast-numbers
+    element-copy-out-x
+    cast-x
     mul-numbers
     element-copy-out-numbers
     mul-numbers-2
     array-write-numbers
-    add-choice
-    add-p
+    add-i
     loop-less
     loop-again
     returns)
