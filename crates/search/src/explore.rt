@@ -3,7 +3,6 @@ use crate::lines::line_ranks;
 use crate::lines::open_lines;
 use crate::visit::visit;
 use cost::cost_of;
-use cost::kits_of;
 use decoding::record_count;
 use decoding::variable_count;
 use diagram::Plan;
@@ -29,7 +28,7 @@ ghost use Rattle.diagram.specs.Plans.{LeastPassing};
 ghost use Rattle.diagram.proofs.Checked.{Passed};
 ghost use Rattle.scoring.specs.Passes.{Decoded, marksByPosition};
 ghost use Rattle.layers.specs.Layers.{layersOf};
-ghost use Rattle.search.specs.State.{padded, Arrays, Ordered, Arranged, ExploredWithin};
+ghost use Rattle.search.specs.State.{Arrays, Ordered, Arranged, ExploredWithin};
 
 // Every position by its own number, to be picked from.
 const POSITIONS: [u64; 64] = [
@@ -104,19 +103,6 @@ pub struct Limits {
     pub kits: [u16; 20],
     pub budget: u32,
     pub least: u64,
-}
-
-// The limits of a search where the lines take the file's own kits. The file has at most 20 choices, as check 15 leaves it.
-pub fn limits_of(file: &[u8], budget: u32, least: u64) -> Limits
-    requires { ⌜ length (tableOf (now file) .kits) ≤ 20 ⌝ }
-    ensures { λ r. ⌜ (r .kits ≡ padded (tableOf (now (file .entry)) .kits)) × (r .budget ≡ budget) × (r .least ≡ least) ⌝ }
-{
-    let kits = kits_of(file);
-    Limits {
-        kits,
-        budget,
-        least,
-    }
 }
 
 // What is held and counted after the search of a file that has passed every check, from a plan that the checks 21 and 22 let

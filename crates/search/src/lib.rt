@@ -8,8 +8,8 @@ pub use answer::Finding;
 pub use answer::SearchAnswer;
 use diagram::Refusal;
 use diagram::least_passing;
+use explore::Limits;
 use explore::explore;
-use explore::limits_of;
 use incumbent::CUTOFF;
 use incumbent::ROOM;
 use incumbent::VISITS;
@@ -36,9 +36,15 @@ pub fn search(file: &[u8], plan: &[u8], budget: u32, percent: u32, out: &mut [u8
         ReadAnswer::Refused(r) => return SearchAnswer::Refused(r),
     };
     let t = found.table;
+    let kits = t.kits;
+    let least = least_passing(percent, numbers.scale);
+    let limits = Limits {
+        kits,
+        budget,
+        least,
+    };
     let mut best = [0u8; 20];
     let mut tally = [0u64; 3];
-    let limits = limits_of(file, budget, least_passing(percent, numbers.scale));
     explore(
         file,
         plan,
