@@ -1,4 +1,5 @@
 // The arcs of a table laid out for a search.
+use crate::cells::ROOT_CELL;
 use crate::order::order_arcs;
 use crate::weigh::number_cells;
 use crate::weigh::pick_arcs;
@@ -12,6 +13,9 @@ ghost use lib.ListN.{length, getD, replicate};
 ghost use Rattle.layers.specs.Chains.{arcsInOrder};
 ghost use Rattle.layers.specs.Layers.{layersOf};
 ghost use Rattle.layers.specs.Weighed.{NodesWithin, NodesOnce, Laid};
+
+// The cell that an arc starts from where it is no node's.
+const ROOT_SOURCE: u16 = ROOT_CELL as u16;
 
 // Lays out the arcs into the first n nodes of the order: where each node's begin, and for each arc the cell that it starts from
 // and its weight. The search hands in zeros, and an accepted table's records, as `order_records` puts them in order.
@@ -38,7 +42,7 @@ pub fn lay_arcs(
     let mut weights = [0u64; 544];
     weigh_arcs(n, positions, marks, high_arcs, low_arcs, &mut weights);
     weigh_roots(roots, &mut weights);
-    let mut numbers = [1u16; 544];
+    let mut numbers = [ROOT_SOURCE; 544];
     number_cells(n, order, &mut numbers);
     let count = starts[n] as usize;
     pick_arcs(count, &list, &weights, arcs);

@@ -18,7 +18,7 @@ ghost use Prim.Native.Nat.{ℕ, _≤_, _<_};
 ghost use lib.ListN.{length, getD, set, replicate};
 ghost use Rattle.diagram.specs.Table.{sequence};
 ghost use Rattle.scoring.specs.Passes.{over};
-ghost use Rattle.layers.specs.Cells.{highCell, lowCell, lowArcOf};
+ghost use Rattle.layers.specs.Cells.{highCell, lowCell, rootCell, lowArcOf};
 ghost use Rattle.layers.specs.Flows.{lowKept};
 ghost use Rattle.layers.specs.Weighed.{highKeptAt, lowKeptAt, Brought, Weighted, NodesWithin, NodesOnce, Numbered, lossOf, LossFits, lossesByRank};
 
@@ -73,11 +73,11 @@ fn low_kept(mark: u8, arc: u64) -> u64
     if mark == Plan::TAKEN { 0 } else { arc }
 }
 
-// The cells of the arcs of the first n nodes of the order, by the arcs' numbers: `lay_arcs` hands in ones, the cell of
-// the roots' arcs, and an order in which no node stands twice, as `order_records` leaves it.
+// The cells of the arcs of the first n nodes of the order, by the arcs' numbers: `lay_arcs` hands in the cell of the roots' arcs
+// everywhere, and an order in which no node stands twice, as `order_records` leaves it.
 pub fn number_cells(n: usize, order: &[u16; 1040], numbers: &mut [u16; 544])
     requires nodes { ⌜ (n ≤ 254) × NodesWithin n (now order) × NodesOnce n (now order) ⌝ }
-    requires ones { ⌜ now numbers ≡ replicate 544 1 ⌝ }
+    requires roots { ⌜ now numbers ≡ replicate 544 rootCell ⌝ }
     ensures { λ _. ⌜ Numbered n (now (order .entry)) (now (numbers .exit)) ⌝ }
 {
     let mut i = 0;
