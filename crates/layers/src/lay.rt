@@ -19,12 +19,12 @@ const ROOT_SOURCE: u16 = ROOT_CELL as u16;
 
 // Lays out the arcs into the first n nodes of the order: where each node's begin, and for each arc the cell that it starts from
 // and its weight. The search hands in zeros, and an accepted table's records, as `order_records` puts them in order.
-pub fn lay_arcs(
+pub fn lay_arcs<'a>(
     n: usize,
     roots: Roots,
-    positions: &[u8; 256],
-    high: &[u8; 256],
-    low: &[u8; 256],
+    positions: &'a [u8; 256],
+    high: &'a [u8; 256],
+    low: &'a [u8; 256],
     high_arcs: &[u64; 256],
     low_arcs: &[u64; 256],
     marks: &[u8; 64],

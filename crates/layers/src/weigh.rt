@@ -126,11 +126,11 @@ pub fn pick_cells(count: usize, list: &[u16; 1040], numbers: &[u16; 544], source
 
 // What leaving its line loses of each node's value, by rank. The values are those of the table under the plan that the search
 // starts from, with all open lines taken, and so no loss is below zero: the search hands in a monotone table's.
-pub fn weigh_losses(
+pub fn weigh_losses<'a>(
     n: usize,
-    positions: &[u8; 256],
+    positions: &'a [u8; 256],
     marks: &[u8; 64],
-    low: &[u8; 256],
+    low: &'a [u8; 256],
     low_arcs: &[u64; 256],
     values: &[u64; 256],
     order: &[u16; 1040],

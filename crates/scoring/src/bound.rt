@@ -70,11 +70,11 @@ pub fn bound_of<'a>(
 
 // The values of all nodes under the marks in force, an open line counting as taken. The arrays hold a table and a plan, as
 // `read_records`, `lay_out` and `marks_by_position` leave them.
-pub fn values_of(
+pub fn values_of<'a>(
     n: usize,
-    positions: &[u8; 256],
-    high: &[u8; 256],
-    low: &[u8; 256],
+    positions: &'a [u8; 256],
+    high: &'a [u8; 256],
+    low: &'a [u8; 256],
     high_arcs: &[u64; 256],
     low_arcs: &[u64; 256],
     marks: &[u8; 64],

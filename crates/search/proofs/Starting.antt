@@ -1,6 +1,6 @@
 -- What a search lays out once is what its first visit starts from.
--- Assumes of the file that no check finds it at fault (`Passed`), and for the first visit that the arrays hold its table, laid out for a search from the
--- plan (`Arranged`).
+-- Assumes of the decoded table that it is accepted (`Sound`), and for the first visit that the arrays hold it, laid out for a search from the plan
+-- (`Arranged`).
 use Prim.Native.Nat.{ℕ, zero, suc, _+_, _-_, _≤_, _<_, _^_, min}
 use native.Mathlib.Nat.{zero-add, add-zero}
 use native.Mathlib.Omega.{arith}
@@ -13,23 +13,21 @@ use mathlib.Core.List.{List, [], _∷_, _++_}
 use lib.ListN.{length, getD, set, take, drop, replicate, length-set, length-append, length-replicate, drop-of-length-le}
 use lib.Pow.{pow-mono}
 use lib.Seq.{getD-set-same, getD-set-other, take-length, take-append-seam, getD-drop, getD-take, length-take-le, drop-cons}
-use Rattle.diagram.specs.Table.{Variable, choice, chance, Table, sequence, tableOf, isChoice, choiceCount}
+use Rattle.diagram.specs.Table.{Variable, choice, chance, Table, sequence, isChoice, choiceCount}
 use Rattle.diagram.specs.Plans.{openCount, costOf, cost, LeastPassing}
 use Rattle.diagram.specs.Visits as visits
 use Rattle.diagram.specs.declared.plan.Plan.{Plan}
-use Rattle.diagram.proofs.Places.{sequence-at}
-use Rattle.diagram.proofs.Checked.{Passed}
 use Rattle.cost.proofs.Kits.{cost-first}
-use Rattle.reading.proofs.Accepted.{passed-variables, passed-choices, passed-formed, passed-monotone}
+use Rattle.decoding.specs.declared.table.Decoded.{Decoded}
+use Rattle.decoding.specs.Decoding.{tableIn, Held, Valid, Sound}
+use Rattle.decoding.proofs.Standing.{place-in}
 use Rattle.rule.proofs.Visiting.{visited-rule}
 use Rattle.scoring.specs.declared.roots.Roots.{Roots}
 use Rattle.scoring.specs.Value.{marksFrom}
 use Rattle.scoring.specs.Passes.{over, markOf, marksByPosition, Marked}
 use Rattle.scoring.proofs.Bounding.{marked}
 use Rattle.requesting.proofs.FullPlans.{Legal}
-use Rattle.scoring.proofs.Over.{over-sequence-at}
 use Rattle.scoring.proofs.Passing.{choices-before}
-use Rattle.sweep.specs.Drops.{Chosen}
 use Rattle.sweep.proofs.Leaving.{choices-later}
 use Rattle.layers.specs.Chains.{pick, joined, placed}
 use Rattle.layers.specs.Layers.{Layers}
@@ -77,10 +75,11 @@ position-own (choice ∷ vs) (suc x) h e = ap suc (position-own vs x (omega arit
 position-own (chance a b ∷ vs) zero h e = absurd (false≢true e)
 position-own (chance a b ∷ vs) (suc x) h e = ap suc (position-own vs x (omega arith) e)
 
--- the numbers from 0 to 63 hold the choices' positions
-pub own-numbers : (t : Table) → length (t .variables) < 64 → Chosen t (choicePosition (t .variables)) (sequence (λ x. x) 0 64)
-own-numbers t few x h e =
-    sequence-at (λ x. x) 0 64 x 0 (omega arith) ∙ zero-add x ∙ sym (position-own (t .variables) x h e)
+-- the places of a decoded table's choices are their positions
+pub places-own : {d : Decoded} → Held d → (i : ℕ) → i < choiceCount (tableIn d .variables) → getD (d .places) i 0 ≡ choicePosition (tableIn d .variables) i
+places-own {d} h i l =
+    let at = place-in h i (omega (arith, h .choices)) in
+    sym (position-own (tableIn d .variables) _ (at .within) (at .is)) ∙ ap (choicePosition (tableIn d .variables)) (at .number)
 
 -- ---------------------------------------------------------------------------
 -- The open lines
@@ -206,7 +205,7 @@ module _ (t : Table) (s : List ℕ) (long : length s ≡ choiceCount (t .variabl
   -- ---------------------------------------------------------------------------
   -- The layers as `line_ranks` writes them
 
-  module _ (count : ℕ) (numbers places : List ℕ) (listed : take count numbers ≡ openLines s) (size : count ≤ length numbers) (chosen : places ≡ over (sequence (choicePosition (t .variables)) 0 (choiceCount (t .variables))) (replicate 20 0)) where
+  module _ (count : ℕ) (numbers places : List ℕ) (listed : take count numbers ≡ openLines s) (size : count ≤ length numbers) (chosen : (i : ℕ) → i < choiceCount (t .variables) → getD places i 0 ≡ choicePosition (t .variables) i) where
     -- all open lines are listed
     pub open-counted : count ≡ openCount s
     unfolding openLines
@@ -221,7 +220,7 @@ module _ (t : Table) (s : List ℕ) (long : length s ≡ choiceCount (t .variabl
     place-at : (i : ℕ) → i < count → getD places (getD numbers i 0) 0 ≡ choicePosition (t .variables) (getD (openLines s) i 0)
     place-at i h =
         let few = opened-at i h .within in
-        rw (number-at i h, chosen) (over-sequence-at (choicePosition (t .variables)) (replicate 20 0) (choiceCount (t .variables)) (getD (openLines s) i 0) (omega (arith, few, long)))
+        rw (number-at i h) (chosen (getD (openLines s) i 0) (omega (arith, few, long)))
 
     -- what `line_ranks` asks for
     pub numbers-few : choiceCount (t .variables) ≤ 20 → length (t .variables) < 64 → (i : ℕ) → i < count → (getD numbers i 0 < 20) × (getD places (getD numbers i 0) 0 < 64)
@@ -293,10 +292,10 @@ handed-in p start few marks count =
     )
 
 -- What is visited first, where the lines take these kits
-abbrev pub firstScene : (kits s p order : List ℕ) → (percent budget least : ℕ) → Scene
-firstScene kits s p order percent budget least =
+abbrev pub firstScene : (kits : List ℕ) → Table → (p order : List ℕ) → (percent budget least : ℕ) → Scene
+firstScene kits t p order percent budget least =
     record {
-      table = priced (take (length p) kits) (tableOf s);
+      table = priced (take (length p) kits) t;
       start = p;
       order = order;
       percent = percent;
@@ -325,14 +324,13 @@ nothing-held t budget least best W {x} {y} {z} three ex ey ez e =
         let z : _≡_ {A = ℕ} 0 1 = cc in
         omega arith
 
--- What is made of the plan handed in: its marks, the numbers of its open lines, and the choices' positions
-pub record Ready (s p : List ℕ) (start : Plan) (count : ℕ) (numbers places : List ℕ) : Type 0 where
+-- What is made of the plan handed in: its marks, and the numbers of its open lines
+pub record Ready (p : List ℕ) (start : Plan) (count : ℕ) (numbers : List ℕ) : Type 0 where
   pub handed : (rows start ≡ p) × (start .marks ≡ padded p) × (length (start .marks) ≡ 20)
   pub listed : (count ≤ 20) × (take count numbers ≡ openLines (rows start))
   pub twenty : length numbers ≡ 20
-  pub chosen : places ≡ over (sequence (choicePosition (tableOf s .variables)) 0 (choiceCount (tableOf s .variables))) (replicate 20 0)
 
-module _ {s p : List ℕ} (passed : Passed s) (long : length p ≡ choiceCount (tableOf s .variables)) {start : Plan} {count : ℕ} {numbers places : List ℕ} (ready : Ready s p start count numbers places) where
+module _ {d : Decoded} {p : List ℕ} (sound : Sound d) (long : length p ≡ choiceCount (tableIn d .variables)) {start : Plan} {count : ℕ} {numbers : List ℕ} (ready : Ready p start count numbers) where
   lists : take count numbers ≡ openLines p
   lists = rw (ready .handed .0) at (ready .listed .1)
 
@@ -340,31 +338,31 @@ module _ {s p : List ℕ} (passed : Passed s) (long : length p ≡ choiceCount (
   room = omega (arith, ready .listed .0, ready .twenty)
 
   -- what `line_ranks` asks for
-  pub first-few : (i : ℕ) → i < count → (getD numbers i 0 < 20) × (getD places (getD numbers i 0) 0 < 64)
+  pub first-few : (i : ℕ) → i < count → (getD numbers i 0 < 20) × (getD (d .places) (getD numbers i 0) 0 < 64)
   first-few =
-      numbers-few (tableOf s) p long count numbers places lists room (ready .chosen) (passed-choices passed) (omega (arith, passed-variables passed))
+      numbers-few (tableIn d) p long count numbers (d .places) lists room (places-own (sound .held)) (sound .valid .choices) (omega (arith, sound .valid .variables))
 
   -- all that the first visit is handed
-  pub first-visitable : {percent budget least bound left : ℕ} {ends order losses kits lines cells marks best tally : List ℕ} {l : Layers} → Arranged (tableOf s) p bound ends order l losses → Ranked count numbers places ends kits lines → getD cells 1 0 ≡ 1 → marks ≡ start .marks → left ≡ budget + 1 - costOf kits p → LeastPassing (tableOf s) percent least → Holds (priced (take (length p) kits) (tableOf s)) budget least none best tally → Visitable (firstScene kits s p order percent budget least) l losses lines cells marks best tally count left bound
+  pub first-visitable : {percent budget least bound left : ℕ} {ends order losses kits lines cells marks best tally : List ℕ} {l : Layers} → Arranged (tableIn d) p bound ends order l losses → Ranked count numbers (d .places) ends kits lines → getD cells 1 0 ≡ 1 → marks ≡ start .marks → left ≡ budget + 1 - costOf kits p → LeastPassing (tableIn d) percent least → Holds (priced (take (length p) kits) (tableIn d)) budget least none best tally → Visitable (firstScene kits (tableIn d) p order percent budget least) l losses lines cells marks best tally count left bound
   unfolding cost priced
   first-visitable {kits} arranged ranked heavy same affords passing holds =
       let from = ranked .first in
       let list = take (length p) kits in
       record {
         ground = record {
-          passing = priced-passing list (tableOf s) _ _ passing;
-          few = passed-choices passed;
-          layered = priced-layered list (tableOf s) (arranged .layered);
-          layer = λ n more h. priced-line list (tableOf s) (layers-ranked (tableOf s) p long count numbers places lists room (ready .chosen) (arranged .ending) ranked n more h);
-          priced = kits-ranked (tableOf s) p long count numbers places lists room (ready .chosen) (arranged .ending) ranked;
+          passing = priced-passing list (tableIn d) _ _ passing;
+          few = sound .valid .choices;
+          layered = priced-layered list (tableIn d) (arranged .layered);
+          layer = λ n more h. priced-line list (tableIn d) (layers-ranked (tableIn d) p long count numbers (d .places) lists room (places-own (sound .held)) (arranged .ending) ranked n more h);
+          priced = kits-ranked (tableIn d) p long count numbers (d .places) lists room (places-own (sound .held)) (arranged .ending) ranked;
         };
         stands = record {
           settles = record { size = refl; kept = λ i f. refl; later = λ i h. refl };
           marked = same ∙ ready .handed .1;
-          listed = open-ranked (tableOf s) p long count numbers places lists room (ready .chosen) (arranged .ending) ranked;
-          few = omega (arith, open-counted (tableOf s) p long count numbers places lists room (ready .chosen));
+          listed = open-ranked (tableIn d) p long count numbers (d .places) lists room (places-own (sound .held)) (arranged .ending) ranked;
+          few = omega (arith, open-counted (tableIn d) p long count numbers (d .places) lists room (places-own (sound .held)));
           affords = rw (cost-first kits p) affords;
-          bounded = arranged .bounded ∙ sym (priced-bound list (tableOf s) p);
+          bounded = arranged .bounded ∙ sym (priced-bound list (tableIn d) p);
           right = rw from (record { high = λ j k h e. absurd (omega arith); low = λ j k h e. absurd (omega arith) });
           rooted = heavy;
         };
@@ -376,22 +374,22 @@ module _ {s p : List ℕ} (passed : Passed s) (long : length p ≡ choiceCount (
   first-room e = omega (arith, e, pow-mono {i = suc count} {j = 21} (omega (arith, ready .listed .0)))
 
 -- what the first visit leaves is what document 01's search does
-pub first-explored : {s p : List ℕ} → Passed s → (kits : List ℕ) → {percent budget least from counted : ℕ} {order cells marks cells′ marks′ best tally : List ℕ} → counted ≡ 0 → Visited (firstScene kits s p order percent budget least) from counted cells marks cells′ marks′ best tally → Searched (priced (take (length p) kits) (tableOf s)) percent budget least p best tally
-first-explored {s} {p} passed kits {percent} {budget} {least} {from} {counted} {order} e v =
+pub first-explored : {t : Table} {p : List ℕ} → Valid t → (kits : List ℕ) → {percent budget least from counted : ℕ} {order cells marks cells′ marks′ best tally : List ℕ} → counted ≡ 0 → Visited (firstScene kits t p order percent budget least) from counted cells marks cells′ marks′ best tally → Searched (priced (take (length p) kits) t) percent budget least p best tally
+first-explored {t} {p} valid kits {percent} {budget} {least} {from} {counted} {order} e v =
     let list = take (length p) kits in
-    let t = priced list (tableOf s) in
-    let formed = priced-formed list (tableOf s) (passed-formed passed) in
-    let monotone = priced-monotone list (tableOf s) (passed-monotone passed) in
-    let done : ruled (firstScene kits s p order percent budget least) counted ≡ visits.visited t budget percent p = rw e (sym (visited-rule t formed monotone budget percent p)) in
+    let u = priced list t in
+    let formed = priced-formed list t (valid .formed) in
+    let monotone = priced-monotone list t (valid .monotone) in
+    let done : ruled (firstScene kits t p order percent budget least) counted ≡ visits.visited u budget percent p = rw e (sym (visited-rule u formed monotone budget percent p)) in
     record { holds = rw done at (v .holds); counts = v .counts ∙ ap (λ (w : visits.Tally). w .visits) done }
 
 -- ---------------------------------------------------------------------------
 -- What the search lays out
 
 -- the arrays hold the table and the plan
-pub arrays-marked : {s p : List ℕ} → Passed s → {n : ℕ} {rs : Roots} {ps hs ls ha la ms : List ℕ} → Arrays s n rs ps hs ls ha la → (length p ≡ choiceCount (tableOf s .variables)) × Legal p → ms ≡ marksByPosition (tableOf s) p → Marked (tableOf s) p n ps hs ls ha la ms
-arrays-marked {s} {p} passed {n} arrays plan marks =
-    marked passed n (arrays .size) p (replicate 256 0) (replicate 256 0) (plan .0) (plan .1) (arrays .decoded) (arrays .high-arcs) (arrays .low-arcs) marks
+pub arrays-marked : {d : Decoded} {p : List ℕ} → Sound d → {rs : Roots} {ha la ms : List ℕ} → Arrays d rs ha la → (length p ≡ choiceCount (tableIn d .variables)) × Legal p → ms ≡ marksByPosition (tableIn d) p → Marked (tableIn d) p (d .records) (d .positions) (d .high) (d .low) ha la ms
+arrays-marked {d} {p} sound arrays plan marks =
+    marked sound p (replicate 256 0) (replicate 256 0) (plan .0) (plan .1) (arrays .high-arcs) (arrays .low-arcs) marks
 
 module _ {t : Table} {p : List ℕ} {n : ℕ} {ps hs ls ha la ms : List ℕ} (m : Marked t p n ps hs ls ha la ms) {v : ℕ} (variables : v ≡ length (t .variables)) where
   few : length (t .records) ≤ 254

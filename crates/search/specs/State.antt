@@ -4,15 +4,17 @@ use mathlib.Core.Path.{_≡_}
 use mathlib.Core.List.{List, [], _∷_, _++_}
 use mathlib.Core.Option.{Option, none, some}
 use lib.ListN.{length, getD, take, replicate}
-use Rattle.diagram.specs.Table.{Table, Variable, choice, chance, sequence, tableOf, choiceCount}
+use Rattle.diagram.specs.Table.{Table, Variable, choice, chance, sequence, choiceCount}
 use Rattle.diagram.specs.Score as scores
 use Rattle.diagram.specs.Plans.{openTaken, openCount, cost, upperBound, LeastPassing}
 use Rattle.diagram.specs.Visits as visits
 use Rattle.diagram.specs.declared.plan.Plan.{Plan}
 use Rattle.search.specs.declared.explore.Limits.{Limits}
+use Rattle.decoding.specs.declared.table.Decoded.{Decoded}
+use Rattle.decoding.specs.Decoding.{tableIn}
 use Rattle.scoring.specs.declared.roots.Roots.{Roots}
 use Rattle.scoring.specs.Value.{place, highArc, lowArc}
-use Rattle.scoring.specs.Passes.{over, byNode, Decoded, RootsHeld, marksByPosition}
+use Rattle.scoring.specs.Passes.{over, byNode, RootsHeld, marksByPosition}
 use Rattle.rule.specs.Rule.{terms, rule}
 use Rattle.incumbent.specs.Tally.{cutoff, roomHeld, visitsCounted}
 use Rattle.layers.specs.Chains.{pick, joined, placed}
@@ -152,20 +154,18 @@ VisitLeaves l losses lines cells marks best tally unsettled room bound cells′ 
 -- ---------------------------------------------------------------------------
 -- The start and the end of a search
 
--- The arrays hold the file's table, as `lay_out` leaves them
-pub record Arrays (s : List ℕ) (n : ℕ) (rs : Roots) (positions high low highArcs lowArcs : List ℕ) : Type 0 where
-  pub size : n ≡ length (tableOf s .records)
-  pub entering : RootsHeld (tableOf s) rs
-  pub decoded : Decoded s positions high low
-  pub high-arcs : highArcs ≡ over (byNode (highArc (tableOf s)) n) (replicate 256 0)
-  pub low-arcs : lowArcs ≡ over (byNode (lowArc (tableOf s)) n) (replicate 256 0)
+-- The arrays hold the arcs of a decoded table, as `lay_out` leaves them
+pub record Arrays (d : Decoded) (rs : Roots) (highArcs lowArcs : List ℕ) : Type 0 where
+  pub entering : RootsHeld (tableIn d) rs
+  pub high-arcs : highArcs ≡ over (byNode (highArc (tableIn d)) (d .records)) (replicate 256 0)
+  pub low-arcs : lowArcs ≡ over (byNode (lowArc (tableIn d)) (d .records)) (replicate 256 0)
 
 -- The marks by position, and the nodes and arcs in order, as `arrange` leaves them
-pub record Ordered (s p : List ℕ) (n : ℕ) (rs : Roots) (positions high low highArcs lowArcs marks ends order : List ℕ) (l : Layers) : Type 0 where
-  pub marking : marks ≡ marksByPosition (tableOf s) p
-  pub nodes : order ≡ placed (replicate 1040 0) 0 (joined (λ x. pick positions 0 x n) (length (tableOf s .variables)))
-  pub ending : ends ≡ over (sequence (λ x. length (joined (λ y. pick positions 0 y n) x)) 0 (length (tableOf s .variables) + 1)) (replicate 256 0)
-  pub laid : Laid n rs positions high low highArcs lowArcs marks order l
+pub record Ordered (d : Decoded) (p : List ℕ) (rs : Roots) (highArcs lowArcs marks ends order : List ℕ) (l : Layers) : Type 0 where
+  pub marking : marks ≡ marksByPosition (tableIn d) p
+  pub nodes : order ≡ placed (replicate 1040 0) 0 (joined (λ x. pick (d .positions) 0 x (d .records)) (length (tableIn d .variables)))
+  pub ending : ends ≡ over (sequence (λ x. length (joined (λ y. pick (d .positions) 0 y (d .records)) x)) 0 (length (tableIn d .variables) + 1)) (replicate 256 0)
+  pub laid : Laid (d .records) rs (d .positions) (d .high) (d .low) highArcs lowArcs marks order l
 
 -- `ends` has how many nodes of the order stand before each position: those before stand there, those from there to the next at it, and those after later
 pub record Ending (t : Table) (order ends : List ℕ) : Type 0 where
@@ -187,8 +187,8 @@ pub record Searched (t : Table) (percent budget least : ℕ) (p best tally : Lis
   pub holds : Holds t budget least (visits.visited t budget percent p .held) best tally
   pub counts : visitsCounted tally ≡ visits.visited t budget percent p .visits
 
--- What a search of a file from a plan leaves held and counted, within limits whose least score passes at some percentage
-abbrev pub ExploredWithin : (file plan : List ℕ) → Limits → (best tally : List ℕ) → Type 0
-ExploredWithin file plan limits best tally =
-    (percent : ℕ) → LeastPassing (tableOf file) percent (limits .least) →
-    Searched (priced (take (length plan) (limits .kits)) (tableOf file)) percent (limits .budget) (limits .least) plan best tally
+-- What a search of a table from a plan leaves held and counted, within limits whose least score passes at some percentage
+abbrev pub SearchedWithin : Table → (plan : List ℕ) → Limits → (best tally : List ℕ) → Type 0
+SearchedWithin t plan limits best tally =
+    (percent : ℕ) → LeastPassing t percent (limits .least) →
+    Searched (priced (take (length plan) (limits .kits)) t) percent (limits .budget) (limits .least) plan best tally

@@ -3,8 +3,7 @@ use crate::lines::line_ranks;
 use crate::lines::open_lines;
 use crate::visit::visit;
 use cost::cost_of;
-use decoding::record_count;
-use decoding::variable_count;
+use decoding::Decoded;
 use diagram::Plan;
 use incumbent::CUTOFF;
 use incumbent::ROOM;
@@ -18,85 +17,16 @@ use scoring::lay_out;
 use scoring::marks_by_position;
 use scoring::root_sum;
 use scoring::values_of;
-use sweep::by_choice;
 ghost use mathlib.Core.Path.{_≡_};
 ghost use mathlib.Core.List.{List};
 ghost use Prim.Native.Nat.{ℕ, _+_, _-_, _≤_};
 ghost use lib.ListN.{length, getD};
-ghost use Rattle.diagram.specs.Table.{tableOf, choiceCount};
+ghost use Rattle.diagram.specs.Table.{choiceCount};
 ghost use Rattle.diagram.specs.Plans.{LeastPassing};
-ghost use Rattle.diagram.proofs.Checked.{Passed};
-ghost use Rattle.scoring.specs.Passes.{Decoded, marksByPosition};
+ghost use Rattle.decoding.specs.Decoding.{tableIn, Sound};
+ghost use Rattle.scoring.specs.Passes.{marksByPosition};
 ghost use Rattle.layers.specs.Layers.{layersOf};
-ghost use Rattle.search.specs.State.{Arrays, Ordered, Arranged, ExploredWithin};
-
-// Every position by its own number, to be picked from.
-const POSITIONS: [u64; 64] = [
-    0,
-    1,
-    2,
-    3,
-    4,
-    5,
-    6,
-    7,
-    8,
-    9,
-    10,
-    11,
-    12,
-    13,
-    14,
-    15,
-    16,
-    17,
-    18,
-    19,
-    20,
-    21,
-    22,
-    23,
-    24,
-    25,
-    26,
-    27,
-    28,
-    29,
-    30,
-    31,
-    32,
-    33,
-    34,
-    35,
-    36,
-    37,
-    38,
-    39,
-    40,
-    41,
-    42,
-    43,
-    44,
-    45,
-    46,
-    47,
-    48,
-    49,
-    50,
-    51,
-    52,
-    53,
-    54,
-    55,
-    56,
-    57,
-    58,
-    59,
-    60,
-    61,
-    62,
-    63,
-];
+ghost use Rattle.search.specs.State.{Arrays, Ordered, Arranged, SearchedWithin};
 
 // What limits a search: the kits that each line takes, the kits that there are, and the least score that passes.
 pub struct Limits {
@@ -105,83 +35,67 @@ pub struct Limits {
     pub least: u64,
 }
 
-// What is held and counted after the search of a file that has passed every check, from a plan that the checks 21 and 22 let
-// through. The arrays hold the file's records, as `accept` leaves them.
-pub fn explore<'a>(
-    file: &[u8],
+// What is held and counted after the search of an accepted table, from a plan that the checks 21 and 22 let through.
+pub fn explore(
+    table: Decoded,
     plan: &[u8],
     limits: Limits,
-    positions: &'a [u8; 256],
-    high: &'a [u8; 256],
-    low: &'a [u8; 256],
     best: &mut [u8; 20],
     tally: &mut [u64; 3],
 )
-    requires passed { ⌜ Passed (now file) ⌝ }
-    requires plan { ⌜ (length (now plan) ≡ choiceCount (tableOf (now file) .variables)) × ((i : ℕ) → getD (now plan) i 0 ≤ 2) ⌝ }
-    requires least { ⌜ (limits .budget ≤ 10020) × ((percent : ℕ) × LeastPassing (tableOf (now file)) percent (limits .least)) ⌝ }
-    requires records { ⌜ Decoded (now file) (now positions) (now high) (now low) ⌝ }
+    requires sound { ⌜ Sound table ⌝ }
+    requires plan { ⌜ (length (now plan) ≡ choiceCount (tableIn table .variables)) × ((i : ℕ) → getD (now plan) i 0 ≤ 2) ⌝ }
+    requires least { ⌜ (limits .budget ≤ 10020) × ((percent : ℕ) × LeastPassing (tableIn table) percent (limits .least)) ⌝ }
     requires sizes { ⌜ (length (now best) ≡ 20) × (length (now tally) ≡ 3) ⌝ }
-    ensures { λ _. ⌜ ExploredWithin (now (file .entry)) (now (plan .entry)) limits (now (best .exit)) (now (tally .exit)) ⌝ }
+    ensures { λ _. ⌜ SearchedWithin (tableIn table) (now (plan .entry)) limits (now (best .exit)) (now (tally .exit)) ⌝ }
 {
-    let n = record_count(file);
     let mut high_arcs = [0u64; 256];
     let mut low_arcs = [0u64; 256];
-    let roots = lay_out(file, n, positions, high, low, &mut high_arcs, &mut low_arcs);
-    let marks = marks_by_position(file, plan);
+    let roots = lay_out(table, &mut high_arcs, &mut low_arcs);
+    let marks = marks_by_position(table, plan);
     arrange(
-        file,
-        plan,
-        limits,
-        best,
-        tally,
-        n,
-        roots,
-        positions,
-        high,
-        low,
-        &high_arcs,
-        &low_arcs,
-        &marks,
+        table, plan, limits, best, tally, roots, &high_arcs, &low_arcs, &marks,
     )
 }
 
-// Lays the table out for the search, and begins it. The arrays hold the file's table, and the marks are the plan's by position.
+// Lays the table out for the search, and begins it. The arrays hold the table's arcs, and the marks are the plan's by position.
 fn arrange(
-    file: &[u8],
+    table: Decoded,
     plan: &[u8],
     limits: Limits,
     best: &mut [u8; 20],
     tally: &mut [u64; 3],
-    n: usize,
     roots: Roots,
-    positions: &[u8; 256],
-    high: &[u8; 256],
-    low: &[u8; 256],
     high_arcs: &[u64; 256],
     low_arcs: &[u64; 256],
     marks: &[u8; 64],
 )
-    requires passed { ⌜ Passed (now file) ⌝ }
-    requires plan { ⌜ (length (now plan) ≡ choiceCount (tableOf (now file) .variables)) × ((i : ℕ) → getD (now plan) i 0 ≤ 2) ⌝ }
-    requires least { ⌜ (limits .budget ≤ 10020) × ((percent : ℕ) × LeastPassing (tableOf (now file)) percent (limits .least)) ⌝ }
+    requires sound { ⌜ Sound table ⌝ }
+    requires plan { ⌜ (length (now plan) ≡ choiceCount (tableIn table .variables)) × ((i : ℕ) → getD (now plan) i 0 ≤ 2) ⌝ }
+    requires least { ⌜ (limits .budget ≤ 10020) × ((percent : ℕ) × LeastPassing (tableIn table) percent (limits .least)) ⌝ }
     requires sizes { ⌜ (length (now best) ≡ 20) × (length (now tally) ≡ 3) ⌝ }
-    requires arrays { ⌜ Arrays (now file) n roots (now positions) (now high) (now low) (now «high_arcs») (now «low_arcs») ⌝ }
-    requires marks { ⌜ now marks ≡ marksByPosition (tableOf (now file)) (now plan) ⌝ }
-    ensures { λ _. ⌜ ExploredWithin (now (file .entry)) (now (plan .entry)) limits (now (best .exit)) (now (tally .exit)) ⌝ }
+    requires arrays { ⌜ Arrays table roots (now «high_arcs») (now «low_arcs») ⌝ }
+    requires marks { ⌜ now marks ≡ marksByPosition (tableIn table) (now plan) ⌝ }
+    ensures { λ _. ⌜ SearchedWithin (tableIn table) (now (plan .entry)) limits (now (best .exit)) (now (tally .exit)) ⌝ }
 {
     let mut order = [0u16; 1040];
     let mut ends = [0u16; 256];
-    order_records(n, variable_count(file), positions, &mut order, &mut ends);
+    order_records(
+        table.records,
+        table.variables,
+        &table.positions,
+        &mut order,
+        &mut ends,
+    );
     let mut starts = [0u16; 256];
     let mut sources = [0u16; 1040];
     let mut arcs = [0u64; 1040];
     lay_arcs(
-        n,
+        table.records,
         roots,
-        positions,
-        high,
-        low,
+        &table.positions,
+        &table.high,
+        &table.low,
         high_arcs,
         low_arcs,
         marks,
@@ -191,16 +105,12 @@ fn arrange(
         &mut arcs,
     );
     evaluate(
-        file,
+        table,
         plan,
         limits,
         best,
         tally,
-        n,
         roots,
-        positions,
-        high,
-        low,
         high_arcs,
         low_arcs,
         marks,
@@ -212,18 +122,14 @@ fn arrange(
     )
 }
 
-// Values the nodes under the plan, and begins the search. The arrays hold the file's table and the plan, in order, as `arrange` leaves them.
+// Values the nodes under the plan, and begins the search. The arrays hold the table's arcs and the plan, in order, as `arrange` leaves them.
 fn evaluate(
-    file: &[u8],
+    table: Decoded,
     plan: &[u8],
     limits: Limits,
     best: &mut [u8; 20],
     tally: &mut [u64; 3],
-    n: usize,
     roots: Roots,
-    positions: &[u8; 256],
-    high: &[u8; 256],
-    low: &[u8; 256],
     high_arcs: &[u64; 256],
     low_arcs: &[u64; 256],
     marks: &[u8; 64],
@@ -233,20 +139,20 @@ fn evaluate(
     sources: &[u16; 1040],
     arcs: &[u64; 1040],
 )
-    requires passed { ⌜ Passed (now file) ⌝ }
-    requires plan { ⌜ (length (now plan) ≡ choiceCount (tableOf (now file) .variables)) × ((i : ℕ) → getD (now plan) i 0 ≤ 2) ⌝ }
-    requires least { ⌜ (limits .budget ≤ 10020) × ((percent : ℕ) × LeastPassing (tableOf (now file)) percent (limits .least)) ⌝ }
+    requires sound { ⌜ Sound table ⌝ }
+    requires plan { ⌜ (length (now plan) ≡ choiceCount (tableIn table .variables)) × ((i : ℕ) → getD (now plan) i 0 ≤ 2) ⌝ }
+    requires least { ⌜ (limits .budget ≤ 10020) × ((percent : ℕ) × LeastPassing (tableIn table) percent (limits .least)) ⌝ }
     requires sizes { ⌜ (length (now best) ≡ 20) × (length (now tally) ≡ 3) ⌝ }
-    requires arrays { ⌜ Arrays (now file) n roots (now positions) (now high) (now low) (now «high_arcs») (now «low_arcs») ⌝ }
-    requires ordered { ⌜ Ordered (now file) (now plan) n roots (now positions) (now high) (now low) (now «high_arcs») (now «low_arcs») (now marks) (now ends) (now order) (layersOf (now starts) (now sources) (now arcs)) ⌝ }
-    ensures { λ _. ⌜ ExploredWithin (now (file .entry)) (now (plan .entry)) limits (now (best .exit)) (now (tally .exit)) ⌝ }
+    requires arrays { ⌜ Arrays table roots (now «high_arcs») (now «low_arcs») ⌝ }
+    requires ordered { ⌜ Ordered table (now plan) roots (now «high_arcs») (now «low_arcs») (now marks) (now ends) (now order) (layersOf (now starts) (now sources) (now arcs)) ⌝ }
+    ensures { λ _. ⌜ SearchedWithin (tableIn table) (now (plan .entry)) limits (now (best .exit)) (now (tally .exit)) ⌝ }
 {
     let mut values = [0u64; 256];
     values_of(
-        n,
-        positions,
-        high,
-        low,
+        table.records,
+        &table.positions,
+        &table.high,
+        &table.low,
         high_arcs,
         low_arcs,
         marks,
@@ -254,10 +160,10 @@ fn evaluate(
     );
     let mut losses = [0u64; 256];
     weigh_losses(
-        n,
-        positions,
+        table.records,
+        &table.positions,
         marks,
-        low,
+        &table.low,
         low_arcs,
         &values,
         order,
@@ -265,7 +171,7 @@ fn evaluate(
     );
     let bound = root_sum(roots, &values);
     first_visit(
-        file,
+        table,
         plan,
         limits,
         best,
@@ -279,9 +185,9 @@ fn evaluate(
     )
 }
 
-// The first visit, of the plan handed in. The arrays hold the file's table, laid out for a search from the plan.
+// The first visit, of the plan handed in. The arrays hold the table, laid out for a search from the plan.
 fn first_visit(
-    file: &[u8],
+    table: Decoded,
     plan: &[u8],
     limits: Limits,
     best: &mut [u8; 20],
@@ -293,20 +199,26 @@ fn first_visit(
     arcs: &[u64; 1040],
     losses: &[u64; 256],
 )
-    requires passed { ⌜ Passed (now file) ⌝ }
-    requires plan { ⌜ (length (now plan) ≡ choiceCount (tableOf (now file) .variables)) × ((i : ℕ) → getD (now plan) i 0 ≤ 2) ⌝ }
-    requires least { ⌜ (limits .budget ≤ 10020) × ((percent : ℕ) × LeastPassing (tableOf (now file)) percent (limits .least)) ⌝ }
+    requires sound { ⌜ Sound table ⌝ }
+    requires plan { ⌜ (length (now plan) ≡ choiceCount (tableIn table .variables)) × ((i : ℕ) → getD (now plan) i 0 ≤ 2) ⌝ }
+    requires least { ⌜ (limits .budget ≤ 10020) × ((percent : ℕ) × LeastPassing (tableIn table) percent (limits .least)) ⌝ }
     requires sizes { ⌜ (length (now best) ≡ 20) × (length (now tally) ≡ 3) ⌝ }
-    requires arranged { ⌜ ((order : List ℕ) × Arranged (tableOf (now file)) (now plan) bound (now ends) order (layersOf (now starts) (now sources) (now arcs)) (now losses)) ⌝ }
-    ensures { λ _. ⌜ ExploredWithin (now (file .entry)) (now (plan .entry)) limits (now (best .exit)) (now (tally .exit)) ⌝ }
+    requires arranged { ⌜ ((order : List ℕ) × Arranged (tableIn table) (now plan) bound (now ends) order (layersOf (now starts) (now sources) (now arcs)) (now losses)) ⌝ }
+    ensures { λ _. ⌜ SearchedWithin (tableIn table) (now (plan .entry)) limits (now (best .exit)) (now (tally .exit)) ⌝ }
 {
-    let places = by_choice(file, &POSITIONS);
     let start = Plan::of_marks(plan);
     let open = open_lines(start);
     let numbers = open.numbers;
     let kits = limits.kits;
     let mut lines = [0u16; 84];
-    line_ranks(open.count, &numbers, &places, ends, &kits, &mut lines);
+    line_ranks(
+        open.count,
+        &numbers,
+        &table.places,
+        ends,
+        &kits,
+        &mut lines,
+    );
     let mut cells = [0u64; 512];
     cells[ROOT_CELL] = 1;
     let mut marks = start.marks;

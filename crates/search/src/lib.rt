@@ -45,16 +45,7 @@ pub fn search(file: &[u8], plan: &[u8], budget: u32, percent: u32, out: &mut [u8
     };
     let mut best = [0u8; 20];
     let mut tally = [0u64; 3];
-    explore(
-        file,
-        plan,
-        limits,
-        &t.positions,
-        &t.high,
-        &t.low,
-        &mut best,
-        &mut tally,
-    );
+    explore(t, plan, limits, &mut best, &mut tally);
     if tally[ROOM] == 0 {
         return SearchAnswer::Refused(Refusal {
             number: 32,

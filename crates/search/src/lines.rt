@@ -43,7 +43,7 @@ pub fn open_lines(plan: Plan) -> Lines
 pub fn line_ranks(
     count: usize,
     numbers: &[u8; 20],
-    places: &[u64; 20],
+    places: &[u8; 20],
     ends: &[u16; 256],
     kits: &[u16; 20],
     lines: &mut [u16; 84],
@@ -67,12 +67,12 @@ pub fn line_ranks(
 }
 
 // The position of a choice. The positions are a table's, and so below 64.
-fn position_at(places: &[u64; 20], choice: Choice) -> Position
+fn position_at(places: &[u8; 20], choice: Choice) -> Position
     requires { ⌜ (choice .0 < 20) × (getD (now places) (choice .0) 0 < 64) ⌝ }
     ensures { λ r. ⌜ r .0 ≡ getD (now (places .entry)) (choice .0) 0 ⌝ }
 {
     let i = choice.number();
-    Position::new(places[i] as u8)
+    Position::new(places[i])
 }
 
 // Marks the lowest of the unsettled lines.
