@@ -22,7 +22,8 @@ pub struct Lines {
 // The open lines of a plan, which has at most 20 lines, as `Plan::of_marks` leaves it.
 pub fn open_lines(plan: Plan) -> Lines
     requires { ⌜ plan .count ≤ 20 ⌝ }
-    ensures { λ r. ⌜ (r .count ≤ 20) × (take (r .count) (r .numbers) ≡ openLines (rows plan)) ⌝ }
+    ensures lines { λ r. ⌜ (r .count ≤ 20) × (take (r .count) (r .numbers) ≡ openLines (rows plan)) ⌝ }
+    ensures size { λ r. ⌜ length (r .numbers) ≡ 20 ⌝ }
 {
     let n = plan.count;
     let mut numbers = [0u8; 20];

@@ -9,7 +9,6 @@ use Rattle.diagram.specs.Plans.{LeastPassing}
 use Rattle.diagram.specs.Services.{answered}
 use Rattle.reading.proofs.Outcomes.{numbers}
 use Rattle.reading.proofs.Accepted.{passed-scale, passed-choices}
-use Rattle.scoring.proofs.Requests.{decoded-read}
 use Rattle.requesting.specs.Request.{requestOutcome}
 use Rattle.requesting.proofs.Requests.{Proper, refused-request, accepted-request, accepted-proper, accepted-scale}
 use Rattle.decoding.specs.Decoding.{padTo}
@@ -48,12 +47,13 @@ least c = c .least-passing .ensures _ (request-scale (c .before .before .before)
 
 -- what the visits hold and have counted
 searched : (c : tie.After-explore) →
-    let a = c .before .before .before .before .before .before .before .before .before .before .before .before .before .before .before .before .before .args in
-    Searched (tableOf (a .file .now)) (a .percent) (a .budget) (c .before .before .before .before .before .before .before .least-passing .result) (a .plan .now) (c .explore .last .1 .1 .1 .1 .1 .1 .0) (c .explore .last .1 .1 .1 .1 .1 .1 .1 .0)
+    let a = c .before .before .before .before .before .before .before .before .before .before .before .before .before .args in
+    Searched (tableOf (a .file .now)) (a .percent) (a .budget) (c .before .before .before .least-passing .result) (a .plan .now) (c .explore .last .1 .1 .1 .0) (c .explore .last .1 .1 .1 .1 .0)
 searched c =
-    let told = c .before .before .before .before .before .before .before .before .before .before in
+    let told = c .before .before .before .before .before .before in
     let ok = request-proper told in
-    rw (table-kits told, kits-first _ _ (ok .long), priced-own) at (c .explore .ensures _ (least (c .before .before .before .before .before .before .before)))
+    let stands = c .before .before .before .before .before .before .before .before .before .accept .ensures .accepted _ (c .before .before .before .before .before .before .before .answer .given .1) .0 in
+    rw (stands, table-kits told, kits-first _ _ (ok .long), priced-own) at (c .explore .ensures (c .before .before .before .before .before .before .before .before .before .before .before .before .before .args .percent) (rw stands (least (c .before .before .before))))
 
 accept-requires : tie.Need-accept-requires
 accept-requires c κs = search needs
@@ -75,39 +75,39 @@ least-passing-requires c κs =
 
 explore-requires : tie.Need-explore-requires
 explore-requires c κs =
-    let told = c .before .before .before .before .before .before .before .before .before in
+    let told = c .before .before .before .before .before in
     let ok = request-proper told in
-    let table = told .before .before .before .accept .ensures .accepted _ (told .before .answer .given .1) in
-    (ok .passed, ((ok .long, ok .legal), ((ok .budgets, (_, least (c .before .before .before .before .before .before))), (decoded-read (table .0) (table .1 .held), (refl, refl)))))
+    let table = c .before .before .before .before .before .before .before .before .accept .ensures .accepted _ (c .before .before .before .before .before .before .answer .given .1) in
+    (table .1, ((rw (table .0) (ok .long), ok .legal), ((ok .budgets, (c .before .before .before .before .before .before .before .before .before .before .before .before .args .percent, rw (table .0) (least (c .before .before)))), (refl, refl))))
 
 array-read-if1 : tie.Need-array-read-if1
 array-read-if1 c = search needs
 
 returns-2 : tie.Need-returns-2
 returns-2 c =
-    let told = c .before .before .before .before .before .before .before .before .before .before .before in
+    let told = c .before .before .before .before .before .before .before in
     let a = told .before .before .before .before .before .before .before .args in
     search-32 (a .file .now) (a .plan .now) (a .out .now) (a .budget) (a .percent) (numbers (told .before .answer .given .0 .0)) (request-answered told) (searched (c .before)) (c .if1 .taken) refl refl
 
 write-requires : tie.Need-write-requires
 write-requires c κs =
-    let told = c .before .before .before .before .before .before .before .before .before .before .before .before .before in
+    let told = c .before .before .before .before .before .before .before .before .before in
     let a = told .before .before .before .before .before .before .before .args in
     let ok = request-proper told in
     (held-long _ _ (a .out .now) _ _ _ (request-answered told) (searched (c .before .before .before)) (c .before .before .if1 .left), omega (arith, ok .sized, passed-choices (ok .passed)))
 
-array-read-t27 : tie.Need-array-read-t27
-array-read-t27 c = search needs
+array-read-t24 : tie.Need-array-read-t24
+array-read-t24 c = search needs
 
-array-read-t37 : tie.Need-array-read-t37
-array-read-t37 c = search needs
+array-read-t34 : tie.Need-array-read-t34
+array-read-t34 c = search needs
 
 same-length : tie.Need-same-length
 same-length c = search needs
 
 returns-3 : tie.Need-returns-3
 returns-3 c =
-    let told = c .before .before .before .before .before .before .before .before .before .before .before .before .before .before .before .before in
+    let told = c .before .before .before .before .before .before .before .before .before .before .before .before in
     let a = told .before .before .before .before .before .before .before .args in
     search-found (a .file .now) (a .plan .now) (a .out .now) (a .budget) (a .percent) (numbers (told .before .answer .given .0 .0)) (request-answered told) (searched (c .before .before .before .before .before .before)) (c .before .before .before .before .before .if1 .left) (c .before .before .write .ensures) refl refl
 
@@ -124,7 +124,7 @@ search-spec =
     array-read-if1
     returns-2
     write-requires
-    array-read-t27
-    array-read-t37
+    array-read-t24
+    array-read-t34
     same-length
     returns-3)

@@ -58,7 +58,7 @@ loop-again c =
 returns : tie.Need-returns Inv-loop μ-loop
 returns c =
     let at = c .before .loop in
-    (omega arith, found-all _ _ (at .i) (enough (c .before .before)) (at .numbers) (at .count) (at .inv .3) (omega arith))
+    ((omega arith, found-all _ _ (at .i) (enough (c .before .before)) (at .numbers) (at .count) (at .inv .3) (omega arith)), at .inv .2)
 
 pub open-lines-spec : {M : Type 1} → statement M
 open-lines-spec =
