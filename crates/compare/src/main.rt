@@ -3,22 +3,8 @@
 //
 // Every table comes from a seed, its number. What is printed is a line for each service and for each number of a refusal, and at
 // the end whether all agree.
-mod damage;
-mod draw;
-mod file;
-mod ladder;
-mod marks;
-mod records;
-mod requests;
-mod roots;
-mod tables;
-mod tally;
-mod twice;
-mod variables;
-mod wide;
-
-use requests::on_table;
-use tally::Tally;
+use agreement::Tally;
+use asked_twice::on_table;
 
 const TABLES: usize = 10000;
 

@@ -1,25 +1,25 @@
 // The checks, in their order.
 use crate::Verdict;
 use crate::answered;
-use crate::numbers::add;
-use crate::numbers::mul;
-use crate::numbers::only;
-use crate::plans::mark_at;
 use crate::refused;
-use crate::scores::walk;
-use crate::table::Word;
-use crate::table::choices;
-use crate::table::choices_below;
-use crate::table::place_of;
-use crate::table::record;
-use crate::table::records;
-use crate::table::root_place;
-use crate::table::root_words;
-use crate::table::scale;
-use crate::table::scale_below;
-use crate::table::variable;
-use crate::table::variables;
-use crate::table::word_at;
+use counter_plans::mark_at;
+use counter_scores::Word;
+use counter_scores::add;
+use counter_scores::choices;
+use counter_scores::choices_below;
+use counter_scores::mul;
+use counter_scores::only;
+use counter_scores::place_of;
+use counter_scores::record;
+use counter_scores::records;
+use counter_scores::root_place;
+use counter_scores::root_words;
+use counter_scores::scale;
+use counter_scores::scale_below;
+use counter_scores::variable;
+use counter_scores::variables;
+use counter_scores::walk;
+use counter_scores::word_at;
 
 // The most that B may be, 2^56.
 const LIMIT: u64 = 72057594037927936;

@@ -6,27 +6,22 @@
 // Every function is proved safe and ending; none has a contract. A table that passes check 27 and
 // has more than 16 variables is answered by 99, which is no number of the planner.
 mod checks;
-mod numbers;
-mod plans;
-mod scores;
-mod table;
-mod visits;
 
 use checks::check;
 use checks::check_table;
-use numbers::size;
-use plans::Marks;
-use plans::best_of;
-use plans::forced_by;
-use plans::full_marks;
-use plans::marks_of;
-use plans::passing;
-use plans::top_of;
-use plans::write_drops;
-use plans::write_marks;
-use scores::score_of;
-use table::decode;
-use visits::visits_of;
+use counter_plans::Marks;
+use counter_plans::best_of;
+use counter_plans::forced_by;
+use counter_plans::full_marks;
+use counter_plans::marks_of;
+use counter_plans::passing;
+use counter_plans::top_of;
+use counter_plans::visits_of;
+use counter_plans::write_drops;
+use counter_plans::write_marks;
+use counter_scores::decode;
+use counter_scores::score_of;
+use counter_scores::size;
 
 // What a service answers: the refusal's number and place, both 0 where the request is answered, and
 // the values, each 0 where there is none.
