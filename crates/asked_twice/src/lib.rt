@@ -2,4 +2,4 @@
 mod requests;
 mod twice;
 
-pub use requests::on_table;
+pub use requests::on_file;

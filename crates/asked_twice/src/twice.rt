@@ -1,5 +1,7 @@
 // A request answered by the planner and by the counter, and what comes of it.
 use agreement::Tally;
+use agreement::same_marks;
+use agreement::same_numbers;
 use counter::Verdict;
 use diagram::Refusal;
 use made_files::Marks;
@@ -9,6 +11,14 @@ use scoring::ScoreAnswer;
 use search::SearchAnswer;
 use sweep::FilterAnswer;
 use sweep::SweepAnswer;
+
+// What comes with a file and a plan: the table's number, the size of the lent buffer, the kits and the percentage.
+pub struct Asked {
+    pub table: usize,
+    pub size: usize,
+    pub kits: u32,
+    pub percent: u32,
+}
 
 pub fn read_twice(tally: Tally, table: usize, file: &[u8]) -> Tally {
     let ours = of_read(reading::read(file));
@@ -22,62 +32,47 @@ pub fn score_twice(tally: Tally, table: usize, file: &[u8], plan: &[u8]) -> Tall
     tally.with(Tally::SCORE, table, ours, theirs, true)
 }
 
-pub fn sweep_twice(tally: Tally, table: usize, file: &[u8], plan: &[u8], size: usize) -> Tally {
+pub fn sweep_twice(tally: Tally, asked: Asked, file: &[u8], plan: &[u8]) -> Tally {
     let mut mine = [18446744073709551615u64; 24];
     let mut other = [18446744073709551615u64; 24];
-    let n = least(size, 24);
+    let n = least(asked.size, 24);
     let ours = of_sweep(sweep::sweep(file, plan, &mut mine[..n]));
     let theirs = counter::sweep(file, plan, &mut other[..n]);
     tally.with(
         Tally::SWEEP,
-        table,
+        asked.table,
         ours,
         theirs,
         same_numbers(&mine, &other),
     )
 }
 
-pub fn filter_twice(
-    tally: Tally,
-    table: usize,
-    file: &[u8],
-    plan: &[u8],
-    percent: u32,
-    size: usize,
-) -> Tally {
-    let lent = Marks::untouched(size);
+pub fn filter_twice(tally: Tally, asked: Asked, file: &[u8], plan: &[u8]) -> Tally {
+    let lent = Marks::untouched(asked.size);
     let n = lent.length();
     let mut mine = lent.marks;
     let mut other = lent.marks;
-    let ours = of_filter(sweep::filter(file, plan, percent, &mut mine[..n]));
-    let theirs = counter::filter(file, plan, percent, &mut other[..n]);
+    let ours = of_filter(sweep::filter(file, plan, asked.percent, &mut mine[..n]));
+    let theirs = counter::filter(file, plan, asked.percent, &mut other[..n]);
     tally.with(
         Tally::FILTER,
-        table,
+        asked.table,
         ours,
         theirs,
         same_marks(&mine, &other),
     )
 }
 
-pub fn search_twice(
-    tally: Tally,
-    table: usize,
-    file: &[u8],
-    plan: &[u8],
-    kits: u32,
-    percent: u32,
-    size: usize,
-) -> Tally {
-    let lent = Marks::untouched(size);
+pub fn search_twice(tally: Tally, asked: Asked, file: &[u8], plan: &[u8]) -> Tally {
+    let lent = Marks::untouched(asked.size);
     let n = lent.length();
     let mut mine = lent.marks;
     let mut other = lent.marks;
-    let ours = of_search(search::search(file, plan, kits, percent, &mut mine[..n]));
-    let theirs = counter::search(file, plan, kits, percent, &mut other[..n]);
+    let ours = of_search(search::search(file, plan, asked.kits, asked.percent, &mut mine[..n]));
+    let theirs = counter::search(file, plan, asked.kits, asked.percent, &mut other[..n]);
     tally.with(
         Tally::SEARCH,
-        table,
+        asked.table,
         ours,
         theirs,
         same_marks(&mine, &other),
@@ -144,26 +139,4 @@ fn refused(r: Refusal) -> Verdict {
         third: 0,
         fourth: 0,
     }
-}
-
-fn same_numbers(a: &[u64; 24], b: &[u64; 24]) -> bool {
-    let mut i = 0;
-    while i < 24 {
-        if a[i] != b[i] {
-            return false;
-        }
-        i += 1;
-    }
-    true
-}
-
-fn same_marks(a: &[u8; 32], b: &[u8; 32]) -> bool {
-    let mut i = 0;
-    while i < 32 {
-        if a[i] != b[i] {
-            return false;
-        }
-        i += 1;
-    }
-    true
 }

@@ -2,6 +2,7 @@
 mod draws;
 mod file;
 mod marks;
+mod numbers;
 
 pub use draws::draw;
 pub use draws::fork;
@@ -15,3 +16,7 @@ pub use draws::times;
 pub use file::File;
 pub use file::Word;
 pub use marks::Marks;
+pub use numbers::kits;
+pub use numbers::lent;
+pub use numbers::percentage;
+pub use numbers::ratio;

@@ -1,8 +1,8 @@
 -- `same_numbers` is safe and ends. Assumes nothing.
 use Prim.Native.Nat.{_-_}
 use native.Mathlib.Omega.{arith}
-use Rattle.asked_twice.proofs.twice.same_numbers.Statement.{statement}
-use Rattle.asked_twice.proofs.twice.same_numbers.Tie as tie
+use Rattle.agreement.proofs.buffers.same_numbers.Statement.{statement}
+use Rattle.agreement.proofs.buffers.same_numbers.Tie as tie
 
 abbrev Inv-loop : tie.InvT-loop
 Inv-loop a b i₀ i = Unit {0}
