@@ -3,9 +3,9 @@
 use Prim.Native.Nat.{_-_, _≤_}
 use native.Mathlib.Omega.{arith}
 use mathlib.Core.Path.{refl}
-use Rattle.printout.proofs.Writes.{Writing, writing-start, writing-next, writing-end}
-use Rattle.printout.proofs.text.put_word.Statement.{statement}
-use Rattle.printout.proofs.text.put_word.Tie as tie
+use Rattle.writing.proofs.Writes.{Writing, writing-start, writing-next, writing-end}
+use Rattle.writing.proofs.words.put_word.Statement.{statement}
+use Rattle.writing.proofs.words.put_word.Tie as tie
 
 abbrev Inv-loop : tie.InvT-loop
 Inv-loop out₀ at word n i₀ out i = (i ≤ n) × Writing out₀ at word out i

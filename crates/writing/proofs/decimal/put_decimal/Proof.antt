@@ -4,9 +4,9 @@ use Prim.Native.Nat.{_-_, _≤_}
 use native.Mathlib.Omega.{arith}
 use mathlib.Core.Path.{_≡_, refl, ap, _∙_}
 use lib.ListN.{length, length-take, length-set}
-use Rattle.printout.proofs.Digits.{Tail, tail-start, tail-some, tail-next, tail-last}
-use Rattle.printout.proofs.decimal.put_decimal.Statement.{statement}
-use Rattle.printout.proofs.decimal.put_decimal.Tie as tie
+use Rattle.writing.proofs.Digits.{Tail, tail-start, tail-some, tail-next, tail-last}
+use Rattle.writing.proofs.decimal.put_decimal.Statement.{statement}
+use Rattle.writing.proofs.decimal.put_decimal.Tie as tie
 
 abbrev Inv-loop : tie.InvT-loop
 Inv-loop out₀ at n room₀ first₀ left₀ out room first left = (out ≡ out₀) × (first ≤ 20) × (left ≤ n) × Tail n left first room

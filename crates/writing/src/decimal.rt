@@ -1,9 +1,9 @@
 // Numbers in decimal.
-use crate::text::put_word;
+use crate::words::put_word;
 ghost use Prim.Native.Nat.{_+_, _≤_};
 ghost use lib.ListN.{length};
 ghost use Rattle.diagram.specs.Printout.{decimal};
-ghost use Rattle.printout.specs.Writing.{Wrote};
+ghost use Rattle.writing.specs.Wrote.{Wrote};
 
 // Writes a number in decimal from a place on, and answers the place after it. Whoever calls has 20 places there, which are
 // enough for every number. The last digit is found first, so the digits are put into a room from its end, and copied.

@@ -7,7 +7,7 @@ use mathlib.Core.Path.{_≡_, refl, ap, sym, _∙_}
 use mathlib.Core.List.{List, _++_, append-nil, append-assoc}
 use lib.ListN.{length, getD, set, take, drop, length-append, length-set}
 use lib.Seq.{take-suc, take-suc-set, take-length, drop-set-lt, drop-drop}
-use Rattle.printout.specs.Writing.{Wrote}
+use Rattle.writing.specs.Wrote.{Wrote}
 
 -- what is kept from a place on is kept from a later place on
 rest-on : (a b : List ℕ) (j n : ℕ) {k : ℕ} → k ≡ j + n → drop j b ≡ drop j a → drop k b ≡ drop k a

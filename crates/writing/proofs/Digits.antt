@@ -11,7 +11,7 @@ use lib.ListN.{length, set, take, drop, length-append, length-set, length-drop}
 use lib.Seq.{drop-at, take-all, drop-length, length-take-le, set-split, append-snoc}
 use borrow.Author.Tests.{lt-ltb, le-ltb}
 use Rattle.diagram.specs.Printout.{digits, decimal}
-use Rattle.printout.specs.Writing.{Wrote}
+use Rattle.writing.specs.Wrote.{Wrote}
 
 -- ---------------------------------------------------------------------------
 -- The digits of a number
