@@ -5,7 +5,7 @@ use std::io::Write;
 use crate::tables::Random;
 use crate::timing::processor_time;
 
-/// `put_decimal` of the crate printout, which `run.sh` has marked as exported: a buffer and its length, a place and a number.
+/// `put_decimal` of the crate writing, which `run.sh` has marked as exported: a buffer and its length, a place and a number.
 /// It answers the place after the text, and asks for 20 places.
 type PutDecimal = unsafe extern "C" fn(*mut u8, usize, usize, u64) -> usize;
 

@@ -1,5 +1,5 @@
 #!/bin/sh
-# Proves the crates export and printout and makes their static libraries, builds the benchmark over them, and runs it.
+# Proves the crates export and writing and makes their static libraries, builds the benchmark over them, and runs it.
 # bench/run.sh [--before COMMIT] [REQUESTS]: a commit's libraries are made too, and timed beside the others; the number is that of the requests
 # to compare.
 set -eu
@@ -9,12 +9,13 @@ mkdir -p $out
 set -- "$@" ''
 
 # printer TREE NAME: the printer's `put_decimal` as NAME_decimal. No crate exports it: in a tree that is a copy it is marked as exported, and
-# the crate printout proved again and made a static library.
+# its crate, writing or in older trees printout, proved again and made a static library.
 printer() {
-    grep -q '^pub fn put_decimal' "$1/crates/printout/src/decimal.rt"
-    sed -i 's/^pub fn put_decimal/#[no_mangle]\npub extern "C" fn put_decimal/' "$1/crates/printout/src/decimal.rt"
-    (cd "$1" && rt staticlib printout >/dev/null)
-    objcopy --redefine-sym put_decimal="$2_decimal" "$1/target/staticlib/libprintout.a" "$out/lib$2_printer.a"
+    decimal=$(grep -l '^pub fn put_decimal' "$1"/crates/*/src/decimal.rt)
+    crate=$(basename "${decimal%/src/decimal.rt}")
+    sed -i 's/^pub fn put_decimal/#[no_mangle]\npub extern "C" fn put_decimal/' "$decimal"
+    (cd "$1" && rt staticlib "$crate" >/dev/null)
+    objcopy --redefine-sym put_decimal="$2_decimal" "$1/target/staticlib/lib$crate.a" "$out/lib$2_printer.a"
 }
 
 if [ "$1" = --before ]; then

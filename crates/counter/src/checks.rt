@@ -1,55 +1,55 @@
 // The checks, in their order.
 use crate::Verdict;
 use crate::answered;
-use crate::numbers::add;
-use crate::numbers::mul;
-use crate::numbers::only;
-use crate::plans::mark_at;
 use crate::refused;
-use crate::scores::walk;
-use crate::table::Word;
-use crate::table::choices;
-use crate::table::choices_below;
-use crate::table::place_of;
-use crate::table::record;
-use crate::table::records;
-use crate::table::root_place;
-use crate::table::root_words;
-use crate::table::scale;
-use crate::table::scale_below;
-use crate::table::variable;
-use crate::table::variables;
-use crate::table::word_at;
+use counter_plans::mark_at;
+use counter_scores::Word;
+use counter_scores::add;
+use counter_scores::choices;
+use counter_scores::choices_below;
+use counter_scores::mul;
+use counter_scores::only;
+use counter_scores::place_of;
+use counter_scores::record;
+use counter_scores::records;
+use counter_scores::root_place;
+use counter_scores::root_words;
+use counter_scores::scale;
+use counter_scores::scale_below;
+use counter_scores::variable;
+use counter_scores::variables;
+use counter_scores::walk;
+use counter_scores::word_at;
 
 // The most that B may be, 2^56.
 const LIMIT: u64 = 72057594037927936;
 
-// All checks but 31 and 32. `least` is the least mark: 1 for the score, else 0. A service without
-// percent or kits hands in 0, and one without a buffer the plan's own length.
-pub fn check(
-    file: &[u8],
-    words: &[u64; 331],
-    plan: &[u8],
-    least: u8,
-    percent: u32,
-    kits: u32,
-    lent: usize,
-) -> Verdict {
+// What comes with a file and a plan. `least` is the least mark: 1 for the score, else 0. A service
+// without percent or kits hands in 0, and one without a buffer the plan's own length.
+pub struct Asked {
+    pub least: u8,
+    pub percent: u32,
+    pub kits: u32,
+    pub lent: usize,
+}
+
+// All checks but 31 and 32.
+pub fn check(file: &[u8], words: &[u64; 331], plan: &[u8], asked: Asked) -> Verdict {
     let table = check_table(file.len(), words);
     if table.number != 0 {
         return table;
     }
-    let marks = check_plan(plan, table.third, least);
+    let marks = check_plan(plan, table.third, asked.least);
     if marks.number != 0 {
         return marks;
     }
-    if 100 < percent {
+    if 100 < asked.percent {
         return refused(23, 0);
     }
-    if 10020 < kits {
+    if 10020 < asked.kits {
         return refused(24, 0);
     }
-    if lent != plan.len() {
+    if asked.lent != plan.len() {
         return refused(25, 0);
     }
     answered(0, 0, 0, 0)

@@ -1,32 +1,28 @@
-// A second planner, written apart from the other crates: it shares no code, definition or proof
-// with them, and serves only to be compared with the planner in tests. What the planner finds by
-// passes over the records and by branch and bound, it finds by trying every settling of the
-// variables and every full plan.
+// A second planner, written apart from the first: with `counter_scores` and `counter_plans`, on
+// which it stands, it shares no code, definition or proof with the planner's crates, and serves
+// only to be compared with the planner in tests. What the planner finds by passes over the records
+// and by branch and bound, it finds by trying every settling of the variables and every full plan.
 //
 // Every function is proved safe and ending; none has a contract. A table that passes check 27 and
 // has more than 16 variables is answered by 99, which is no number of the planner.
 mod checks;
-mod numbers;
-mod plans;
-mod scores;
-mod table;
-mod visits;
 
+use checks::Asked;
 use checks::check;
 use checks::check_table;
-use numbers::size;
-use plans::Marks;
-use plans::best_of;
-use plans::forced_by;
-use plans::full_marks;
-use plans::marks_of;
-use plans::passing;
-use plans::top_of;
-use plans::write_drops;
-use plans::write_marks;
-use scores::score_of;
-use table::decode;
-use visits::visits_of;
+use counter_plans::Marks;
+use counter_plans::best_of;
+use counter_plans::forced_by;
+use counter_plans::full_marks;
+use counter_plans::marks_of;
+use counter_plans::passing;
+use counter_plans::top_of;
+use counter_plans::visits_of;
+use counter_plans::write_drops;
+use counter_plans::write_marks;
+use counter_scores::decode;
+use counter_scores::score_of;
+use counter_scores::size;
 
 // What a service answers: the refusal's number and place, both 0 where the request is answered, and
 // the values, each 0 where there is none.
@@ -70,7 +66,13 @@ pub fn read(file: &[u8]) -> Verdict {
 // The value: the score of a full plan.
 pub fn score(file: &[u8], plan: &[u8]) -> Verdict {
     let words = decode(file);
-    let checked = check(file, &words, plan, 1, 0, 0, plan.len());
+    let asked = Asked {
+        least: 1,
+        percent: 0,
+        kits: 0,
+        lent: plan.len(),
+    };
+    let checked = check(file, &words, plan, asked);
     if checked.number != 0 {
         return checked;
     }
@@ -81,7 +83,13 @@ pub fn score(file: &[u8], plan: &[u8]) -> Verdict {
 // The value: the top. The drops are written.
 pub fn sweep(file: &[u8], plan: &[u8], drops: &mut [u64]) -> Verdict {
     let words = decode(file);
-    let checked = check(file, &words, plan, 0, 0, 0, drops.len());
+    let asked = Asked {
+        least: 0,
+        percent: 0,
+        kits: 0,
+        lent: drops.len(),
+    };
+    let checked = check(file, &words, plan, asked);
     if checked.number != 0 {
         return checked;
     }
@@ -93,7 +101,13 @@ pub fn sweep(file: &[u8], plan: &[u8], drops: &mut [u64]) -> Verdict {
 // The value: the number of forced lines. The plan is written with these taken.
 pub fn filter(file: &[u8], plan: &[u8], percent: u32, out: &mut [u8]) -> Verdict {
     let words = decode(file);
-    let checked = check(file, &words, plan, 0, percent, 0, out.len());
+    let asked = Asked {
+        least: 0,
+        percent,
+        kits: 0,
+        lent: out.len(),
+    };
+    let checked = check(file, &words, plan, asked);
     if checked.number != 0 {
         return checked;
     }
@@ -116,7 +130,13 @@ pub fn filter(file: &[u8], plan: &[u8], percent: u32, out: &mut [u8]) -> Verdict
 // The values: score and visits. The best candidate is written.
 pub fn search(file: &[u8], plan: &[u8], kits: u32, percent: u32, out: &mut [u8]) -> Verdict {
     let words = decode(file);
-    let checked = check(file, &words, plan, 0, percent, kits, out.len());
+    let asked = Asked {
+        least: 0,
+        percent,
+        kits,
+        lent: out.len(),
+    };
+    let checked = check(file, &words, plan, asked);
     if checked.number != 0 {
         return checked;
     }

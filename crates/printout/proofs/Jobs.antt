@@ -28,7 +28,8 @@ use Rattle.search.specs.declared.answer.Finding.{Finding}
 use Rattle.search.specs.declared.answer.SearchAnswer.{SearchAnswer}
 use Rattle.search.specs.declared.answer.SearchAnswer.the-variants.{Found, Refused}
 use Rattle.search.specs.Answer.{searchOf}
-use Rattle.printout.specs.Writing.{Wrote, tableText, foundText, fullText}
+use Rattle.writing.specs.Wrote.{Wrote}
+use Rattle.printout.specs.Lines.{tableText, foundText, fullText}
 
 -- ---------------------------------------------------------------------------
 -- The table

@@ -12,9 +12,10 @@ use borrow.Author.Tests.{eq-eqb, ne-eqb}
 use Rattle.diagram.specs.Score.{isTaken}
 use Rattle.diagram.proofs.Places.{drop-replicate}
 use Rattle.diagram.specs.Printout.{decimal, choicesWord, scaleWord, kitsWord, scoreWord, visitsWord, takeWord, leftWord, line, markLines}
-use Rattle.printout.specs.Writing.{Wrote, tableText, foundText, markText}
-use Rattle.printout.proofs.Writes.{wrote-then}
-use Rattle.printout.proofs.Digits.{count-fits}
+use Rattle.writing.specs.Wrote.{Wrote}
+use Rattle.printout.specs.Lines.{tableText, foundText, markText}
+use Rattle.writing.proofs.Writes.{wrote-then}
+use Rattle.writing.proofs.Digits.{count-fits}
 
 -- ---------------------------------------------------------------------------
 -- The word of a mark

@@ -1,2 +1,2 @@
--- What the functions that write text leave in their buffer.
-pub mod Writing
+-- The lines that the functions of the printout write.
+pub mod Lines

@@ -19,7 +19,7 @@ ghost use Prim.Native.Nat.{_-_, _≤_};
 ghost use lib.ListN.{length, take, drop, replicate};
 ghost use Rattle.diagram.specs.Table.{tableOf};
 ghost use Rattle.diagram.specs.Printout.{searchText, jobOutcome, jobKits, programOutcome, printout};
-ghost use Rattle.printout.specs.Writing.{Wrote};
+ghost use Rattle.writing.specs.Wrote.{Wrote};
 
 // The text printed: the first `count` bytes, in ASCII. The rest is zeros.
 pub struct Text {

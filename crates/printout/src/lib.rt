@@ -1,5 +1,4 @@
 // What the program `plan` prints for the bytes that it reads, as text in a buffer.
-mod decimal;
 mod job;
 mod text;
 

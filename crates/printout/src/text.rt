@@ -1,27 +1,15 @@
 // The lines of the printout. Each function writes from a place on and answers the place after what it has written; whoever
 // calls has the room that it asks for.
-use crate::decimal::put_decimal;
 use diagram::Plan;
 use reading::Summary;
 use search::Finding;
+use writing::put_decimal;
+use writing::put_word;
 ghost use Prim.Native.Nat.{_+_, _*_, _≤_, _<_};
 ghost use lib.ListN.{length};
 ghost use Rattle.diagram.specs.Printout.{refusalText, markLines};
-ghost use Rattle.printout.specs.Writing.{Wrote, tableText, foundText, markText, fullText};
-
-// Writes a word.
-pub fn put_word(out: &mut [u8], at: usize, word: &[u8]) -> usize
-    requires { ⌜ at + length (now word) ≤ length (now out) ⌝ }
-    ensures { λ r. ⌜ Wrote (now (out .entry)) at (now (out .exit)) r (now (word .entry)) ⌝ }
-{
-    let n = word.len();
-    let mut i = 0;
-    while i < n {
-        out[at + i] = word[i];
-        i += 1;
-    }
-    at + n
-}
+ghost use Rattle.writing.specs.Wrote.{Wrote};
+ghost use Rattle.printout.specs.Lines.{tableText, foundText, markText, fullText};
 
 // Writes the line of a refusal.
 pub fn put_refusal(out: &mut [u8], number: u8, place: usize) -> usize

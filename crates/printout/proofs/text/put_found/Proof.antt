@@ -3,8 +3,8 @@ use Prim.Native.Nat.{_+_, _≤_}
 use native.Mathlib.Omega.{arith}
 use borrow.Author.Needs.{needs}
 use Rattle.diagram.specs.Printout.{kitsWord, scoreWord, visitsWord, line}
-use Rattle.printout.specs.Writing.{foundText}
-use Rattle.printout.proofs.Writes.{wrote-then}
+use Rattle.printout.specs.Lines.{foundText}
+use Rattle.writing.proofs.Writes.{wrote-then}
 use Rattle.printout.proofs.Texts.{number-ends}
 use Rattle.printout.proofs.text.put_found.Statement.{statement}
 use Rattle.printout.proofs.text.put_found.Tie as tie

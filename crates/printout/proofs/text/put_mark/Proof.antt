@@ -6,8 +6,9 @@ use mathlib.Core.Logic.{⊎-elim}
 use mathlib.Core.List.{_++_}
 use borrow.Author.Needs.{needs}
 use Rattle.diagram.specs.Printout.{decimal, takeWord, leftWord, line}
-use Rattle.printout.specs.Writing.{Wrote, markText}
-use Rattle.printout.proofs.Writes.{wrote-then}
+use Rattle.writing.specs.Wrote.{Wrote}
+use Rattle.printout.specs.Lines.{markText}
+use Rattle.writing.proofs.Writes.{wrote-then}
 use Rattle.printout.proofs.Texts.{number-ends, markWord, wrote-take, wrote-left, word-ends}
 use Rattle.printout.proofs.text.put_mark.Statement.{statement}
 use Rattle.printout.proofs.text.put_mark.Tie as tie

@@ -5,7 +5,7 @@ use native.Mathlib.Omega.{arith}
 use lib.ListN.{length, take}
 use lib.Seq.{take-all}
 use Rattle.diagram.specs.Printout.{markLines}
-use Rattle.printout.specs.Writing.{Wrote}
+use Rattle.writing.specs.Wrote.{Wrote}
 use Rattle.printout.proofs.Texts.{mark-ends, lines-start, lines-next}
 use Rattle.printout.proofs.text.put_marks.Statement.{statement}
 use Rattle.printout.proofs.text.put_marks.Tie as tie

@@ -2,8 +2,8 @@
 use Prim.Native.Nat.{_≤_}
 use native.Mathlib.Omega.{arith}
 use borrow.Author.Needs.{needs}
-use Rattle.printout.specs.Writing.{fullText}
-use Rattle.printout.proofs.Writes.{wrote-then}
+use Rattle.printout.specs.Lines.{fullText}
+use Rattle.writing.proofs.Writes.{wrote-then}
 use Rattle.printout.proofs.Texts.{table-ends, found-ends}
 use Rattle.printout.proofs.text.put_plan.Statement.{statement}
 use Rattle.printout.proofs.text.put_plan.Tie as tie

@@ -3,7 +3,7 @@ use Prim.Native.Nat.{_≤_}
 use native.Mathlib.Omega.{arith}
 use borrow.Author.Needs.{needs}
 use Rattle.diagram.specs.Printout.{refusedWord, line, refusalText}
-use Rattle.printout.proofs.Writes.{wrote-then}
+use Rattle.writing.proofs.Writes.{wrote-then}
 use Rattle.printout.proofs.Texts.{number-ends}
 use Rattle.printout.proofs.text.put_refusal.Statement.{statement}
 use Rattle.printout.proofs.text.put_refusal.Tie as tie

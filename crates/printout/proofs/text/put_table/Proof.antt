@@ -3,8 +3,8 @@ use Prim.Native.Nat.{_≤_}
 use native.Mathlib.Omega.{arith}
 use borrow.Author.Needs.{needs}
 use Rattle.diagram.specs.Printout.{choicesWord, scaleWord, line}
-use Rattle.printout.specs.Writing.{tableText}
-use Rattle.printout.proofs.Writes.{wrote-then}
+use Rattle.printout.specs.Lines.{tableText}
+use Rattle.writing.proofs.Writes.{wrote-then}
 use Rattle.printout.proofs.Texts.{number-ends}
 use Rattle.printout.proofs.text.put_table.Statement.{statement}
 use Rattle.printout.proofs.text.put_table.Tie as tie

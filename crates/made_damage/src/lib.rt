@@ -1,0 +1,4 @@
+// Damage to a table, for tests.
+mod damage;
+
+pub use damage::damaged;

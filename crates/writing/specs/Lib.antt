@@ -1,0 +1,2 @@
+-- What the functions that write text leave in their buffer.
+pub mod Wrote

@@ -1,0 +1,6 @@
+// Text written into a buffer from a place on: words, and numbers in decimal.
+mod decimal;
+mod words;
+
+pub use decimal::put_decimal;
+pub use words::put_word;
