@@ -16,6 +16,7 @@ use Rattle.diagram.specs.Services.{refused, Reading, reading, readOutcome, sear
 use Rattle.diagram.specs.Printout.{refusalText, planText, searchText, jobOutcome, jobKits, programOutcome, printout}
 use Rattle.diagram.specs.declared.refusal.Refusal.{Refusal}
 use Rattle.diagram.proofs.Checked.{checked-passes, checked-stops, checked-end, read-refuses}
+use Rattle.decoding.specs.Decoding.{padTo}
 use Rattle.decoding.proofs.Kits.{kits-length}
 use Rattle.cost.proofs.Kits.{cost-padded}
 use Rattle.reading.specs.declared.answer.Summary.{Summary}
@@ -107,8 +108,8 @@ module _ (input : List ℕ) {w k : ℕ} (word : w ≡ wordAt input 0) (kinds : k
 -- The printed kits
 
 -- what the plan printed costs, from the kits of the file in an array
-pub cost-is : (s p kits : List ℕ) → kits ≡ tableOf s .kits ++ replicate (20 - length (tableOf s .kits)) 0 → length p ≡ choiceCount (tableOf s .variables) → costOf kits p ≡ cost (tableOf s) p
-unfolding cost
+pub cost-is : (s p kits : List ℕ) → kits ≡ padTo 20 (tableOf s .kits) → length p ≡ choiceCount (tableOf s .variables) → costOf kits p ≡ cost (tableOf s) p
+unfolding cost padTo
 cost-is s p kits e long = rw e (cost-padded (tableOf s .kits) _ p (long ∙ sym (kits-length s)))
 
 -- at most 1,329 bytes are read

@@ -2,7 +2,6 @@
 use crate::text::put_plan;
 use crate::text::put_refusal;
 use cost::cost_of;
-use cost::kits_of;
 use diagram::Plan;
 use diagram::field_p;
 use diagram::field_q;
@@ -10,7 +9,7 @@ use diagram::field_r;
 use diagram::kind;
 use diagram::word_at;
 use reading::ReadAnswer;
-use reading::read;
+use reading::read_table;
 use search::SearchAnswer;
 use search::search;
 ghost use mathlib.Core.Path.{_≡_};
@@ -85,11 +84,13 @@ fn put_search(out: &mut [u8], file: &[u8], budget: u32, percent: u32) -> usize
     requires { ⌜ 1024 ≤ length (now out) ⌝ }
     ensures { λ r. ⌜ Wrote (now (out .entry)) 0 (now (out .exit)) r (searchText (tableOf (now (file .entry))) (jobOutcome (now (file .entry)) budget percent)) ⌝ }
 {
-    let t = match read(file) {
-        ReadAnswer::Table(t) => t,
+    let read = read_table(file);
+    let answer = read.answer;
+    let numbers = match answer {
+        ReadAnswer::Table(numbers) => numbers,
         ReadAnswer::Refused(r) => return put_refusal(out, r.number, r.place),
     };
-    let start = Plan::fully_open(t.choices);
+    let start = Plan::fully_open(numbers.choices);
     let marks = start.marks;
     let n = start.count;
     let mut plan = [0u8; 20];
@@ -98,6 +99,7 @@ fn put_search(out: &mut [u8], file: &[u8], budget: u32, percent: u32) -> usize
         SearchAnswer::Refused(r) => return put_refusal(out, r.number, r.place),
     };
     let written = &plan[..n];
-    let cost = cost_of(written, &kits_of(file));
-    put_plan(out, t, found, cost, written)
+    let table = read.table;
+    let cost = cost_of(written, &table.kits);
+    put_plan(out, numbers, found, cost, written)
 }
