@@ -17,7 +17,7 @@ use Rattle.diagram.specs.Checks.{positionOf, isMonotoneAt, monotoneFault}
 use Rattle.diagram.proofs.Places.{sequence-at, sequence-past}
 use Rattle.diagram.proofs.Truth.{Formed}
 use Rattle.diagram.proofs.Locality.{position-le, position-less}
-use Rattle.diagram.proofs.Implication.{hiOf, loOf, follow, follow-le, follow-less, follow-later, implies-split}
+use Rattle.diagram.proofs.Implication.{hiOf, loOf, follow, follow-le, follow-less, follow-later, implies-split, implies-false-end}
 use Rattle.decoding.specs.declared.table.Decoded.{Decoded}
 use Rattle.decoding.specs.Nodes.{column}
 use Rattle.decoding.specs.Decoding.{tableIn}
@@ -25,7 +25,7 @@ use Rattle.decoding.proofs.Choosing.{variables-length}
 use Rattle.decoding.proofs.Shape.{records-length}
 use Rattle.decoding.proofs.Columns.{column-at, column-ends}
 use Rattle.decoding.proofs.Standing.{variables-in, variable-in, record-in-past}
-use Rattle.implication.specs.Nodes.{recordsOf, endOf, Pairs, Checkable, monotoneFaultIn, next, smaller}
+use Rattle.implication.specs.Nodes.{recordsOf, endOf, askedNode, Pairs, Checkable, monotoneFaultIn, next, smaller}
 
 -- ---------------------------------------------------------------------------
 -- The records that arrays hold
@@ -200,6 +200,22 @@ position-few {ps} {hs} {ls} h n l =
 -- ---------------------------------------------------------------------------
 -- The arrays of a decoded table
 
+-- the node that is asked about, at the numbers that the code has read: the record's node, its position, and whether a choice stands
+-- there
+module _ (ws ps cs : List ℕ) (k : ℕ) {node at r : ℕ} {test : Bool} (en : node ≡ k + 2) (ea : at ≡ getD ps node 0) (et : test ≡ isChoice (variableOf (getD ws at 0))) where
+  pub asked-choice : test ≡ true → r ≡ getD cs node 0 → r ≡ askedNode ws ps cs k
+  unfolding askedNode
+  asked-choice taken er = rw (← en, ← ea, ← et, taken) er
+
+  pub asked-chance : test ≡ false → r ≡ 0 → r ≡ askedNode ws ps cs k
+  unfolding askedNode
+  asked-chance left er = rw (← en, ← ea, ← et, left) er
+
+-- a record's children imply, or its variable is no choice
+asked-implies : (choice : Bool) (v : ℕ) (rs : List Record) (m n : ℕ) → (not choice || implies v rs m n) ≡ implies v rs (cond choice m 0) (cond choice n 0)
+asked-implies true v rs m n = refl
+asked-implies false v rs m n = sym (implies-false-end v rs 0)
+
 module _ {d : Decoded} (h : Checkable d) where
   held-end : endOf (d .positions) ≡ d .variables
   unfolding endOf column
@@ -240,18 +256,16 @@ module _ {d : Decoded} (h : Checkable d) where
       omega (arith, h .few, ap (λ (r : Record). r .position) (held-cells k l))
 
   -- check 18's test of record k, as the arrays have it
-  pub held-test : (k : ℕ) → k < d .records → isMonotoneAt (tableIn d) k ≡ (not (isChoice (variableOf (getD (d .words) (getD (d .positions) (k + 2) 0) 0))) || implies (endOf (d .positions)) (recordsOf (d .positions) (d .high) (d .low)) (getD (d .low) (k + 2) 0) (getD (d .high) (k + 2) 0))
+  held-test : (k : ℕ) → k < d .records → isMonotoneAt (tableIn d) k ≡ (not (isChoice (variableOf (getD (d .words) (getD (d .positions) (k + 2) 0) 0))) || implies (endOf (d .positions)) (recordsOf (d .positions) (d .high) (d .low)) (getD (d .low) (k + 2) 0) (getD (d .high) (k + 2) 0))
   unfolding isMonotoneAt
   held-test k l =
       let before = position-less (h .formed) k in
       rw (held-implies, variable-in d _ before, held-cells k l)
 
-  -- the same at the numbers that the code has read: a record that is no choice's, and one whose children are decided
-  pub held-chance : (k : ℕ) → k < d .records → {node at : ℕ} {test : Bool} → node ≡ k + 2 → at ≡ getD (d .positions) node 0 → test ≡ isChoice (variableOf (getD (d .words) at 0)) → test ≡ false → true ≡ isMonotoneAt (tableIn d) k
-  held-chance k l en ea et left = rw (held-test k l, ← en, ← ea, ← et, left)
-
-  pub held-choice : (k : ℕ) → k < d .records → {node at lo hi : ℕ} {test r : Bool} → node ≡ k + 2 → at ≡ getD (d .positions) node 0 → test ≡ isChoice (variableOf (getD (d .words) at 0)) → test ≡ true → lo ≡ getD (d .low) node 0 → hi ≡ getD (d .high) node 0 → r ≡ implies (endOf (d .positions)) (recordsOf (d .positions) (d .high) (d .low)) lo hi → r ≡ isMonotoneAt (tableIn d) k
-  held-choice k l en ea et taken elo ehi er = rw (held-test k l, ← en, ← ea, ← et, taken, ← elo, ← ehi) er
+  -- the same by the nodes that the code has read
+  pub held-asked : (k : ℕ) → k < d .records → {lo hi : ℕ} {r : Bool} → lo ≡ askedNode (d .words) (d .positions) (d .low) k → hi ≡ askedNode (d .words) (d .positions) (d .high) k → r ≡ implies (endOf (d .positions)) (recordsOf (d .positions) (d .high) (d .low)) lo hi → r ≡ isMonotoneAt (tableIn d) k
+  unfolding askedNode
+  held-asked k l elo ehi er = er ∙ rw (elo, ehi) (sym (held-test k l ∙ asked-implies (isChoice (variableOf (getD (d .words) (getD (d .positions) (k + 2) 0) 0))) _ _ _ _))
 
 -- ---------------------------------------------------------------------------
 -- Check 18's test of a word, of a table of v variables

@@ -11,14 +11,16 @@ use mathlib.Mathlib.Data.Bool.Basic.{eq-false-of-not-eq-true}
 use lib.ListN.{length, getD, set, replicate, length-set, length-replicate}
 use lib.Seq.{getD-set-same, getD-set-other}
 use borrow.Author.Tests.{le-leb}
-use Rattle.diagram.specs.Table.{Record, variableOf, isChoice}
+use Rattle.diagram.specs.Table.{Record}
 use Rattle.diagram.specs.Score.{implies}
+use Rattle.diagram.specs.Checks.{isMonotoneAt}
 use Rattle.diagram.proofs.Every.{both, and-true-both}
 use Rattle.diagram.proofs.Implication.{implies-false-end, implies-true-end, implies-same, implies-ends}
 use Rattle.decoding.specs.declared.table.Decoded.{Decoded}
-use Rattle.implication.specs.Nodes.{recordsOf, endOf, Checkable, Pairs, next, smaller, cell, AtOnce, zeros, Met, Room, PassedOn, Waits, Stack, Explored}
+use Rattle.decoding.specs.Decoding.{tableIn}
+use Rattle.implication.specs.Nodes.{recordsOf, endOf, Checkable, askedNode, Pairs, next, smaller, cell, AtOnce, zeros, Met, Room, PassedOn, Waits, Stack}
 use Rattle.implication.proofs.Cells.{cell-le, origin-cell, only-known, zeros-marked}
-use Rattle.implication.proofs.Pairing.{Meets, next-le, next-less, next-later, next-split, position-few, held-chance, held-choice}
+use Rattle.implication.proofs.Pairing.{Meets, next-le, next-less, next-later, next-split, position-few, held-asked}
 
 -- ---------------------------------------------------------------------------
 -- The start
@@ -367,18 +369,15 @@ module _ {ps hs ls met firsts seconds : List ℕ} {a b : ℕ} (h : Stack ps hs l
 pub ask : {ps hs ls met firsts seconds met′ firsts′ seconds′ : List ℕ} {depth′ m n : ℕ} → Stack ps hs ls met firsts seconds 0 0 0 0 0 → Meeting met firsts seconds 0 m n met′ firsts′ seconds′ depth′ → Stack ps hs ls met′ firsts′ seconds′ m n 0 0 depth′
 ask {m} {n} h g = meet h g (λ _. omega arith) m n (here h g) (λ t. (implies-false-end _ _ 0, t))
 
--- with the numbers that the code has read: the record's node, its position, and whether a choice stands there
-module _ {d : Decoded} (held : Checkable d) {k node at : ℕ} {test : Bool} (l : k < d .records) (en : node ≡ k + 2) (ea : at ≡ getD (d .positions) node 0) (et : test ≡ isChoice (variableOf (getD (d .words) at 0))) where
-  pub explored-chance : {met firsts seconds : List ℕ} → test ≡ false → Stack (d .positions) (d .high) (d .low) met firsts seconds 0 0 0 0 0 → Explored d met firsts seconds k
-  explored-chance left h =
-      record {
-        fault = λ e. absurd (false≢true (sym (refuted h e) ∙ implies-false-end _ _ 0));
-        passes = λ e. (sym (held-chance held k l en ea et left), h);
-      }
+-- what passing on all pairs that record k leads to gives: the pair of true and false is met where the record is not monotone, and
+-- else all pairs met imply
+pub record Explored (d : Decoded) (met firsts seconds : List ℕ) (k : ℕ) : Type 0 where
+  pub fault : cell met 1 0 ≡ 1 → false ≡ isMonotoneAt (tableIn d) k
+  pub passes : (cell met 1 0 ≡ 1 → ⊥) → (true ≡ isMonotoneAt (tableIn d) k) × Stack (d .positions) (d .high) (d .low) met firsts seconds 0 0 0 0 0
 
-  pub explored-choice : {met firsts seconds met′ firsts′ seconds′ met″ firsts″ seconds″ : List ℕ} {depth depth′ lo hi : ℕ} → test ≡ true → lo ≡ getD (d .low) node 0 → hi ≡ getD (d .high) node 0 → Meeting met firsts seconds depth lo hi met′ firsts′ seconds′ depth′ → Stack (d .positions) (d .high) (d .low) met″ firsts″ seconds″ lo hi 0 0 0 → Explored d met″ firsts″ seconds″ k
-  explored-choice taken elo ehi g h =
-      record {
-        fault = λ e. sym (held-choice held k l en ea et taken elo ehi (sym (refuted h e)));
-        passes = λ e. (sym (held-choice held k l en ea et taken elo ehi (sym (all-imply h e _ _ (g .m-small) (g .n-small) (h .asked)))), idle h e);
-      }
+pub explored : {d : Decoded} → Checkable d → {k lo hi : ℕ} {met firsts seconds : List ℕ} → k < d .records → lo ≡ askedNode (d .words) (d .positions) (d .low) k → hi ≡ askedNode (d .words) (d .positions) (d .high) k → lo < 256 → hi < 256 → Stack (d .positions) (d .high) (d .low) met firsts seconds lo hi 0 0 0 → Explored d met firsts seconds k
+explored held {k} l elo ehi small small′ h =
+    record {
+      fault = λ e. held-asked held k l elo ehi (sym (refuted h e));
+      passes = λ e. (held-asked held k l elo ehi (sym (all-imply h e _ _ small small′ (h .asked))), idle h e);
+    }

@@ -7,7 +7,7 @@ use mathlib.Core.Option.{Option}
 use mathlib.Core.List.{List}
 use lib.ListN.{length, getD}
 use lib.Dec.{eqb, leb}
-use Rattle.diagram.specs.Table.{Record, Table, sequence}
+use Rattle.diagram.specs.Table.{Record, Table, sequence, variableOf, isChoice}
 use Rattle.diagram.specs.Score.{implies}
 use Rattle.diagram.specs.Checks.{firstPlace, isMonotoneAt}
 use Rattle.diagram.proofs.Truth.{Formed}
@@ -37,6 +37,11 @@ monotoneFaultIn t =
     (λ i. not (isMonotoneAt t (i - (1 + length (t .variables)))))
     (1 + length (t .variables))
     (length (t .records))
+
+-- The node that check 18 asks about at record k, the low or the high one by the children in cs: the record's child where its
+-- variable is a choice, and else false, which implies itself
+unfoldable pub askedNode : (words positions cs : List ℕ) → (k : ℕ) → ℕ
+askedNode ws ps cs k = cond (isChoice (variableOf (getD ws (getD ps (k + 2) 0) 0))) (getD cs (k + 2) 0) 0
 
 -- What passing a pair on needs: arrays that hold records as check 17 wants them, both ends at one position, which is at most
 -- 60, and 0 for the ends' children
@@ -118,9 +123,3 @@ pub record Stack (ps hs ls met firsts seconds : List ℕ) (a b m n depth : ℕ) 
   pub deep : (j : ℕ) → j < depth → j ≤ smaller ps (getD firsts j 0) (getD seconds j 0) + 1
   pub traced : (p q : ℕ) → p < 256 → q < 256 → cell met p q ≡ 1 → AtOnce p q ⊎ (PassedOn ps hs ls met p q ⊎ (Waits firsts seconds depth p q ⊎ ((p ≡ m) × (q ≡ n))))
   pub right : implies (endOf ps) (recordsOf ps hs ls) a b ≡ true → (p q : ℕ) → p < 256 → q < 256 → cell met p q ≡ 1 → implies (endOf ps) (recordsOf ps hs ls) p q ≡ true
-
--- What passing on all pairs that record k leads to gives: the pair of true and false is met where the record is not
--- monotone, and else all pairs met imply
-pub record Explored (d : Decoded) (met firsts seconds : List ℕ) (k : ℕ) : Type 0 where
-  pub fault : cell met 1 0 ≡ 1 → isMonotoneAt (tableIn d) k ≡ false
-  pub passes : (cell met 1 0 ≡ 1 → ⊥) → (isMonotoneAt (tableIn d) k ≡ true) × Stack (d .positions) (d .high) (d .low) met firsts seconds 0 0 0 0 0

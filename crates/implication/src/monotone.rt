@@ -13,10 +13,10 @@ use diagram::Position;
 use steps::Fault;
 ghost use mathlib.Core.Path.{_≡_};
 ghost use Prim.Native.Nat.{ℕ, suc, _+_, _-_, _<_};
-ghost use lib.ListN.{length, set};
+ghost use lib.ListN.{length, getD, set};
 ghost use lib.Dec.{eqb};
 ghost use Rattle.decoding.specs.Decoding.{tableIn};
-ghost use Rattle.implication.specs.Nodes.{Checkable, monotoneFaultIn, next, isKnown, cell, zeros, Met, Room, Stack, Explored};
+ghost use Rattle.implication.specs.Nodes.{Checkable, monotoneFaultIn, askedNode, next, isKnown, cell, zeros, Met, Room, Stack};
 ghost use Rattle.steps.specs.Steps.{faultOf};
 
 // Check 18, of a decoded table whose records are formed, as check 17 leaves them.
@@ -44,7 +44,10 @@ fn first_fault(
     let n = t.records;
     let mut k = 0;
     while k < n {
-        explore_record(t, met, firsts, seconds, k);
+        let low = asked_node(&t.words, &t.positions, &t.low, k);
+        let high = asked_node(&t.words, &t.positions, &t.high, k);
+        let depth = meet(met, firsts, seconds, 0, low, high);
+        explore(met, firsts, seconds, &t.positions, &t.high, &t.low, depth);
         if is_met(met, Node::new(1), Node::new(0)) {
             return Fault::At(end.word() + k);
         }
@@ -53,26 +56,23 @@ fn first_fault(
     Fault::Nowhere
 }
 
-// Meets the pair of a choice record's children, low and high, and all pairs that it leads to.
-fn explore_record(
-    t: Decoded,
-    met: &mut [u64; 1024],
-    firsts: &mut [u8; 128],
-    seconds: &mut [u8; 128],
+// The node that check 18 asks about at record k, the low or the high one by the children lent: the record's child where its variable
+// is a choice, and else false, which implies itself.
+fn asked_node<'a>(
+    words: &'a [u32; 64],
+    positions: &'a [u8; 256],
+    children: &'a [u8; 256],
     k: usize,
-)
-    requires { ⌜ Checkable t × (k < t .records) × Stack (t .positions) (t .high) (t .low) (now met) (now firsts) (now seconds) 0 0 0 0 0 ⌝ }
-    ensures { λ _. ⌜ Explored t (now (met .exit)) (now (firsts .exit)) (now (seconds .exit)) k ⌝ }
+) -> Node
+    requires { ⌜ (k < 254) × (getD (now positions) (k + 2) 0 < 64) ⌝ }
+    ensures { λ r. ⌜ r .0 ≡ askedNode (now (words .entry)) (now (positions .entry)) (now (children .entry)) k ⌝ }
 {
     let node = Node::of_record(k);
-    let at = position_of(&t.positions, node);
-    if !is_choice_at(&t.words, at) {
-        return;
+    let at = position_of(positions, node);
+    if is_choice_at(words, at) {
+        return child_of(children, node);
     }
-    let low = child_of(&t.low, node);
-    let high = child_of(&t.high, node);
-    let depth = meet(met, firsts, seconds, 0, low, high);
-    explore(met, firsts, seconds, &t.positions, &t.high, &t.low, depth);
+    Node::new(0)
 }
 
 // Passes on every pair of the stack, and those that are met on the way, until the stack is empty.
