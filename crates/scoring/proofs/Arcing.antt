@@ -11,16 +11,16 @@ use lib.ListN.{length, getD, set, drop, replicate, length-set, getD-replicate}
 use lib.Seq.{drop-cons, getD-set-same, getD-set-other, ext-getD}
 use borrow.Author.Tests.{eq-eqb, ne-eqb}
 use Rattle.diagram.specs.Words.{kind, fieldQ, fieldR}
-use Rattle.diagram.specs.Table.{Variable, choice, chance, Record, Table, sequence, variableOf, recordAt, scaleOf, scale}
+use Rattle.diagram.specs.Table.{Variable, choice, chance, Record, Table, sequence, variableOf, recordAt, scaleOf}
 use Rattle.diagram.specs.Checks.{positionOf}
 use Rattle.diagram.proofs.Places.{sequence-length, sequence-at}
 use Rattle.diagram.proofs.Locality.{position-le, position-less}
 use Rattle.diagram.proofs.FirstVariable.{Shares, no-shares, choice-shares, chance-shares, scale-positive}
 use Rattle.decoding.specs.declared.table.Decoded.{Decoded}
 use Rattle.decoding.specs.Nodes.{column}
-use Rattle.decoding.specs.Decoding.{tableIn, Held, Sound}
+use Rattle.decoding.specs.Decoding.{variablesIn, tableIn, Held, Sound}
 use Rattle.decoding.proofs.Columns.{front-position, column-at}
-use Rattle.decoding.proofs.Standing.{variables-in, variable-in}
+use Rattle.decoding.proofs.Standing.{variables-in}
 use Rattle.scoring.specs.Value.{place, gap, variableAt, highShare, lowShare, highArc, lowArc}
 use Rattle.scoring.specs.Passes.{over, byNode, products, sharesBy, highShares, lowShares, arcWeight, Weighable}
 use Rattle.scoring.proofs.Over.{over-ends, byNode-length, over-byNode}
@@ -132,18 +132,31 @@ suffix-le (chance-shares {b} {vs} ab b1 h) (suc x) = omega (arith, suffix-le h x
 pub suffix-gap : (t : Table) (x y : ℕ) → Shares (t .variables) → x ≤ y → y ≤ length (t .variables) → scaleOf (drop x (t .variables)) / scaleOf (drop y (t .variables)) ≡ gap t x y
 suffix-gap t x y h l m = rw (← gap-scale t x y l m) (mul-div-cancel (gap t x y) (scale-positive (shares-drop h y)))
 
--- the product from position x on, in a decoded table
-abbrev pub suffix : Decoded → (x : ℕ) → ℕ
-suffix d x = scaleOf (drop x (tableIn d .variables))
+-- the product from position x on
+abbrev pub suffix : List Variable → (x : ℕ) → ℕ
+suffix vs x = scaleOf (drop x vs)
 
--- the product from a position on is the product after it, times its own b
-pub suffix-down : (d : Decoded) (p : ℕ) {x b : ℕ} → p < d .variables → x ≡ suffix d (p + 1) → b ≡ scaleOf (variableOf (getD (d .words) p 0) ∷ []) → x * b ≡ suffix d p
-suffix-down d p h e f =
-    rw (suffix-step (tableIn d .variables) p (omega (arith, variables-in d)), variable-in d p h, e, f)
+-- the variables that words by position hold
+module _ (ws : List ℕ) (n : ℕ) where
+  pub held-length : length (variablesIn ws n) ≡ n
+  unfolding variablesIn
+  held-length = sequence-length (λ x. variableOf (getD ws x 0)) 0 n
 
-pub suffix-fits : {d : Decoded} → Sound d → (x : ℕ) → suffix d x ≤ 2 ^ 56
-unfolding scale
-suffix-fits h x = omega (arith, suffix-le (h .valid .shares) x, h .valid .product)
+  pub held-variable : (x : ℕ) → x < n → getD (variablesIn ws n) x (chance 0 1) ≡ variableOf (getD ws x 0)
+  unfolding variablesIn
+  held-variable x h = sequence-at (λ y. variableOf (getD ws y 0)) 0 n x _ h ∙ rw zero-add
+
+  -- the product from a position on is the product after it, times its own b
+  pub suffix-down : (p : ℕ) {x b : ℕ} → p < n → x ≡ suffix (variablesIn ws n) (p + 1) → b ≡ scaleOf (variableOf (getD ws p 0) ∷ []) → x * b ≡ suffix (variablesIn ws n) p
+  suffix-down p h e f = rw (suffix-step (variablesIn ws n) p (omega (arith, held-length)), held-variable p h, e, f)
+
+-- those of a decoded table
+pub table-variables : (d : Decoded) → variablesIn (d .words) (d .variables) ≡ tableIn d .variables
+unfolding tableIn
+table-variables d = refl
+
+pub suffix-fits : {vs : List Variable} → Shares vs → scaleOf vs ≤ 2 ^ 56 → (x : ℕ) → suffix vs x ≤ 2 ^ 56
+suffix-fits h fits x = omega (arith, suffix-le h x, fits)
 
 -- ---------------------------------------------------------------------------
 -- The weight of an arc
@@ -169,13 +182,13 @@ module _ {d : Decoded} (h : Held d) where
   pub record-position-in : (k : ℕ) → k < 254 → getD (d .positions) (k + 2) 0 ≡ recordAt (tableIn d .records) k .position
   record-position-in k l = ap (λ (cells : List ℕ). getD cells (k + 2) 0) (h .positions) ∙ column-at _ _ _ k l
 
-pub products-at : (t : Table) (x : ℕ) → x < 64 → getD (products t) x 0 ≡ scaleOf (drop x (t .variables))
+pub products-at : (vs : List Variable) (x : ℕ) → x < 64 → getD (products vs) x 0 ≡ scaleOf (drop x vs)
 unfolding products
-products-at t x h = sequence-at (λ i. scaleOf (drop i (t .variables))) 0 64 x 0 h ∙ rw zero-add
+products-at vs x h = sequence-at (λ i. scaleOf (drop i vs)) 0 64 x 0 h ∙ rw zero-add
 
-shares-at : (share : Variable → ℕ) (t : Table) (x : ℕ) → x < 64 → getD (sharesBy share t) x 0 ≡ share (getD (t .variables) x (chance 0 1))
+shares-at : (share : Variable → ℕ) (vs : List Variable) (x : ℕ) → x < 64 → getD (sharesBy share vs) x 0 ≡ share (getD vs x (chance 0 1))
 unfolding sharesBy
-shares-at share t x h = sequence-at (λ i. share (getD (t .variables) i (chance 0 1))) 0 64 x 0 h ∙ rw zero-add
+shares-at share vs x h = sequence-at (λ i. share (getD vs i (chance 0 1))) 0 64 x 0 h ∙ rw zero-add
 
 -- a share, times b of the variables after position x and before position y, is at most the product from x on
 gap-fits : (t : Table) (x y share : ℕ) → Shares (t .variables) → x < y → y ≤ length (t .variables) → share * scaleOf (drop (x + 1) (t .variables)) ≤ scaleOf (drop x (t .variables)) → share * gap t (x + 1) y ≤ scaleOf (drop x (t .variables))
@@ -197,9 +210,9 @@ pub record Weighs (qs ss ps cs : List ℕ) (n arc : ℕ) : Type 0 where
   pub weighable : Weighable qs ss ps cs n
   pub weight : arcWeight qs ss ps cs n ≡ arc
 
-module _ {d : Decoded} {qs : List ℕ} (sound : Sound d) (held : qs ≡ products (tableIn d)) (k : ℕ) (few : k < 254) where
+module _ {d : Decoded} {qs : List ℕ} (sound : Sound d) (held : qs ≡ products (tableIn d .variables)) (k : ℕ) (few : k < 254) where
   -- an arc to child n
-  arc-weighs : {ss cs : List ℕ} (share : Variable → ℕ) (n : ℕ) → let x = recordAt (tableIn d .records) k .position in let own = share (variableAt (tableIn d) k) in ss ≡ sharesBy share (tableIn d) → getD cs (k + 2) 0 ≡ n → n < k + 2 → x < place (tableIn d) n → own * suffix d (x + 1) ≤ suffix d x → Weighs qs ss (d .positions) cs (k + 2) (own * gap (tableIn d) (x + 1) (place (tableIn d) n))
+  arc-weighs : {ss cs : List ℕ} (share : Variable → ℕ) (n : ℕ) → let x = recordAt (tableIn d .records) k .position in let own = share (variableAt (tableIn d) k) in ss ≡ sharesBy share (tableIn d .variables) → getD cs (k + 2) 0 ≡ n → n < k + 2 → x < place (tableIn d) n → own * suffix (tableIn d .variables) (x + 1) ≤ suffix (tableIn d .variables) x → Weighs qs ss (d .positions) cs (k + 2) (own * gap (tableIn d) (x + 1) (place (tableIn d) n))
   unfolding place arcWeight variableAt
   arc-weighs {ss} {cs} share n read child small later fit =
       let t = tableIn d in
@@ -210,27 +223,27 @@ module _ {d : Decoded} {qs : List ℕ} (sound : Sound d) (held : qs ≡ products
       let within : y ≤ length (t .variables) = position-le (sound .valid .formed) n in
       let from : getD (d .positions) (k + 2) 0 ≡ x = record-position-in (sound .held) k few in
       let to : getD (d .positions) (getD cs (k + 2) 0) 0 ≡ y = rw child (position-in (sound .held) n (omega arith)) in
-      let shares : getD ss x 0 ≡ own = rw read (shares-at share t x (omega arith)) in
+      let shares : getD ss x 0 ≡ own = rw read (shares-at share (t .variables) x (omega arith)) in
       let quotient = suffix-gap t (x + 1) y (sound .valid .shares) (omega arith) within in
-      let weight : arcWeight qs ss (d .positions) cs (k + 2) ≡ own * gap t (x + 1) y = rw (from, to, shares, held, products-at t (x + 1) (omega arith), products-at t y (omega arith), quotient) in
+      let weight : arcWeight qs ss (d .positions) cs (k + 2) ≡ own * gap t (x + 1) y = rw (from, to, shares, held, products-at (t .variables) (x + 1) (omega arith), products-at (t .variables) y (omega arith), quotient) in
       record {
         weighable = record {
           from = rw from (omega arith);
           to = rw to (omega arith);
-          positive = rw (to, held, products-at t y (omega arith)) (scale-positive (shares-drop (sound .valid .shares) y));
-          fits = rw weight (omega (arith, gap-fits t x y own (sound .valid .shares) later within fit, suffix-fits sound x));
+          positive = rw (to, held, products-at (t .variables) y (omega arith)) (scale-positive (shares-drop (sound .valid .shares) y));
+          fits = rw weight (omega (arith, gap-fits t x y own (sound .valid .shares) later within fit, suffix-fits (sound .valid .shares) (sound .valid .product) x));
         };
         weight = weight;
       }
 
-  pub high-weighs : {ss : List ℕ} → ss ≡ highShares (tableIn d) → Weighs qs ss (d .positions) (d .high) (k + 2) (highArc (tableIn d) k)
+  pub high-weighs : {ss : List ℕ} → ss ≡ highShares (tableIn d .variables) → Weighs qs ss (d .positions) (d .high) (k + 2) (highArc (tableIn d) k)
   unfolding highArc variableAt place
   high-weighs read =
       let formed = sound .valid .formed in
       let shares = suffix-shares (tableIn d) _ (sound .valid .shares) (position-less formed k) 1 in
       arc-weighs (λ v. highShare v 1) _ read (high-in (sound .held) k few) (formed .hiLess k) (formed .hiLater k) (omega arith)
 
-  pub low-weighs : {ss : List ℕ} → ss ≡ lowShares (tableIn d) → Weighs qs ss (d .positions) (d .low) (k + 2) (lowArc (tableIn d) k)
+  pub low-weighs : {ss : List ℕ} → ss ≡ lowShares (tableIn d .variables) → Weighs qs ss (d .positions) (d .low) (k + 2) (lowArc (tableIn d) k)
   unfolding lowArc variableAt place
   low-weighs read =
       let formed = sound .valid .formed in

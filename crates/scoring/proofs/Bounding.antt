@@ -49,7 +49,7 @@ module _ {d : Decoded} (sound : Sound d) where
       (omega (arith, records-in d), omega (arith, records-in d))
 
   -- the position of node r, as the code has it
-  module _ {pr : List ℕ} {r q : ℕ} (epr : pr ≡ products (tableIn d)) (node : r < d .records + 2) (eq : q ≡ getD (d .positions) r 0) where
+  module _ {pr : List ℕ} {r q : ℕ} (epr : pr ≡ products (tableIn d .variables)) (node : r < d .records + 2) (eq : q ≡ getD (d .positions) r 0) where
     node-position : q ≡ place (tableIn d) r
     unfolding place
     node-position =
@@ -61,7 +61,7 @@ module _ {d : Decoded} (sound : Sound d) where
     node-before = rw node-position (position-le (sound .valid .formed) r)
 
     cell : (x : ℕ) → x < 64 → getD pr x 0 ≡ scaleOf (drop x (tableIn d .variables))
-    cell x l = rw epr (products-at (tableIn d) x l)
+    cell x l = rw epr (products-at (tableIn d .variables) x l)
 
     pub node-within : (q < 64) × (0 < getD pr q 0)
     node-within =

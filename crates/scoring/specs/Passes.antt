@@ -25,20 +25,20 @@ byNode f n = 0 ∷ 0 ∷ sequence f 0 n
 -- What is computed once for a table
 
 -- The product of b from each position on
-unfoldable pub products : Table → List ℕ
-products t = sequence (λ x. scaleOf (drop x (t .variables))) 0 64
+unfoldable pub products : List Variable → List ℕ
+products vs = sequence (λ x. scaleOf (drop x vs)) 0 64
 
 -- A share of each position's variable; the default counts past the last variable
-unfoldable pub sharesBy : (Variable → ℕ) → Table → List ℕ
-sharesBy share t = sequence (λ x. share (getD (t .variables) x (chance 0 1))) 0 64
+unfoldable pub sharesBy : (Variable → ℕ) → List Variable → List ℕ
+sharesBy share vs = sequence (λ x. share (getD vs x (chance 0 1))) 0 64
 
 -- The shares of the hi arcs at each position
-abbrev pub highShares : Table → List ℕ
-highShares t = sharesBy (λ v. highShare v 1) t
+abbrev pub highShares : List Variable → List ℕ
+highShares vs = sharesBy (λ v. highShare v 1) vs
 
 -- The shares of the lo arcs at each position
-abbrev pub lowShares : Table → List ℕ
-lowShares t = sharesBy (λ v. lowShare v 2) t
+abbrev pub lowShares : List Variable → List ℕ
+lowShares vs = sharesBy (λ v. lowShare v 2) vs
 
 -- The weight of node n's arc to the child that `children` has: its share, times the quotient of the products after the node and at the child
 unfoldable pub arcWeight : (products shares positions children : List ℕ) → (n : ℕ) → ℕ

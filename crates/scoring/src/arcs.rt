@@ -1,5 +1,4 @@
 // The weights of a table's arcs: computed once for a table, whatever the plan.
-use decoding::Decoded;
 use decoding::child_of;
 use decoding::position_of;
 use diagram::Node;
@@ -12,21 +11,23 @@ ghost use mathlib.Core.List.{[], _∷_};
 ghost use Prim.Native.Nat.{_+_, _*_, _/_, _≤_, _<_, _^_};
 ghost use lib.ListN.{getD};
 ghost use Rattle.diagram.specs.Table.{variableOf, scaleOf};
-ghost use Rattle.decoding.specs.Decoding.{tableIn, Sound};
+ghost use Rattle.diagram.proofs.FirstVariable.{Shares};
+ghost use Rattle.decoding.specs.Decoding.{variablesIn};
 ghost use Rattle.scoring.specs.Value.{highShare, lowShare};
 ghost use Rattle.scoring.specs.Passes as passes;
 ghost use Rattle.scoring.specs.Passes.{highShares, lowShares, arcWeight, Weighable};
 
-// The product of b from each position on, of a table that is accepted.
-pub fn products(table: Decoded) -> [u64; 64]
-    requires { ⌜ Sound table ⌝ }
-    ensures { λ r. ⌜ r ≡ passes.products (tableIn table) ⌝ }
+// The product of b from each position on, of the first v variables. `lay_out` has an accepted table's words, whose product is at most
+// 2^56.
+pub fn products(words: &[u32; 64], v: u8) -> [u64; 64]
+    requires { ⌜ (v ≤ 60) × Shares (variablesIn (now words) v) × (scaleOf (variablesIn (now words) v) ≤ 2 ^ 56) ⌝ }
+    ensures { λ r. ⌜ r ≡ passes.products (variablesIn (now (words .entry)) v) ⌝ }
 {
     let mut products = [1u64; 64];
-    let mut p = table.variables;
+    let mut p = v;
     while 0 < p {
         p -= 1;
-        let w = table.words[p as usize];
+        let w = words[p as usize];
         let after = products[p as usize + 1];
         products[p as usize] = after * share_sum(w);
     }
@@ -41,27 +42,27 @@ fn share_sum(w: u32) -> u64
 }
 
 // The shares of the hi arcs and of the lo arcs, by position.
-pub struct Shares {
+pub struct SharesByPosition {
     pub high: [u64; 64],
     pub low: [u64; 64],
 }
 
-// The shares of the arcs at each position, read once for all records; 0 and 1 past the last variable.
-pub fn shares_by_position(table: Decoded) -> Shares
-    requires { ⌜ Sound table ⌝ }
-    ensures high { λ r. ⌜ r .high ≡ highShares (tableIn table) ⌝ }
-    ensures low { λ r. ⌜ r .low ≡ lowShares (tableIn table) ⌝ }
+// The shares of the arcs at each position of the first v variables, read once for all records; 0 and 1 past the last variable.
+pub fn shares_by_position(words: &[u32; 64], v: u8) -> SharesByPosition
+    requires { ⌜ v ≤ 60 ⌝ }
+    ensures high { λ r. ⌜ r .high ≡ highShares (variablesIn (now (words .entry)) v) ⌝ }
+    ensures low { λ r. ⌜ r .low ≡ lowShares (variablesIn (now (words .entry)) v) ⌝ }
 {
     let mut high = [0u64; 64];
     let mut low = [1u64; 64];
-    let mut p = table.variables;
+    let mut p = v;
     while 0 < p {
         p -= 1;
-        let w = table.words[p as usize];
+        let w = words[p as usize];
         high[p as usize] = high_share(w);
         low[p as usize] = low_share(w);
     }
-    Shares { high, low }
+    SharesByPosition { high, low }
 }
 
 // The weight of a record's hi arc, or of its lo arc, from the products, the shares of these arcs, and the children that they

@@ -39,7 +39,7 @@ pub fn upper_bound(table: Decoded, plan: &[u8]) -> u64
     )
 }
 
-// The score with all open lines taken, from the arrays of a table, its roots and a plan, as `read_records`, `lay_out` and
+// The score with all open lines taken, from the arrays of a table, its roots and a plan, as `decode`, `lay_out` and
 // `marks_by_position` leave them.
 pub fn bound_of<'a>(
     n: usize,
@@ -69,7 +69,7 @@ pub fn bound_of<'a>(
 }
 
 // The values of all nodes under the marks in force, an open line counting as taken. The arrays hold a table and a plan, as
-// `read_records`, `lay_out` and `marks_by_position` leave them.
+// `decode`, `lay_out` and `marks_by_position` leave them.
 pub fn values_of<'a>(
     n: usize,
     positions: &'a [u8; 256],

@@ -33,7 +33,7 @@ pub fn marks_by_position(table: Decoded, plan: &[u8]) -> [u8; 64]
 }
 
 // The weights of the arcs in force of the first n records. An open line counts as taken. The positions are a table's, as
-// `read_records` leaves them, and so below 64.
+// `decode` leaves them, and so below 64.
 pub fn in_force(
     n: usize,
     positions: &[u8; 256],
@@ -61,7 +61,7 @@ pub fn in_force(
     }
 }
 
-// The mark in force at a position, which is a table's, as `read_records` leaves it, and so below 64.
+// The mark in force at a position, which is a table's, as `decode` leaves it, and so below 64.
 pub fn mark_at(marks: &[u8; 64], at: Position) -> u8
     requires { ⌜ at .0 < 64 ⌝ }
     ensures { λ r. ⌜ r ≡ getD (now (marks .entry)) (at .0) 0 ⌝ }

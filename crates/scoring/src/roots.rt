@@ -22,7 +22,7 @@ pub struct Roots {
 // The roots of an accepted table, by the products of b.
 pub fn roots_of(table: Decoded, products: &[u64; 64]) -> Roots
     requires sound { ⌜ Sound table ⌝ }
-    requires products { ⌜ now products ≡ passes.products (tableIn table) ⌝ }
+    requires products { ⌜ now products ≡ passes.products (tableIn table .variables) ⌝ }
     ensures { λ r. ⌜ RootsHeld (tableIn table) r ⌝ }
 {
     let mut nodes = [0u8; 256];

@@ -20,8 +20,8 @@ pub fn lay_out(table: Decoded, high_arcs: &mut [u64; 256], low_arcs: &mut [u64; 
     ensures low { λ _. ⌜ now («low_arcs» .exit) ≡ over (byNode (lowArc (tableIn table)) (table .records)) (now («low_arcs» .entry)) ⌝ }
     ensures roots { λ r. ⌜ RootsHeld (tableIn table) r ⌝ }
 {
-    let products = products(table);
-    let shares = shares_by_position(table);
+    let products = products(&table.words, table.variables);
+    let shares = shares_by_position(&table.words, table.variables);
     high_arcs[0] = 0;
     high_arcs[1] = 0;
     low_arcs[0] = 0;

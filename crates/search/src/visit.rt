@@ -18,7 +18,7 @@ ghost use Rattle.search.specs.State.{Scene, Visitable, VisitLeaves};
 
 // Visits a plan with so many unsettled lines, such room and such a bound, whose marks are handed in, and leaves what is held and
 // counted then; the marks are as before. Lines, starts, sources, arcs and losses hold a table laid out for the search, and the
-// cells the path weights of the nodes before the lowest open line's layer; `first_visit` hands in the first plan. What a layer
+// cells the path weights of the nodes before the lowest open line's layer; `explore` hands in the first plan. What a layer
 // is entered with stands first, where calls have it in registers.
 pub fn visit<'a>(
     unsettled: usize,

@@ -62,7 +62,7 @@ pub fn two_passes(table: Decoded, plan: &[u8]) -> Sweep
 }
 
 // One pass up gives the values of the nodes, one pass down their path weights, from what the roots bring. The arrays hold a
-// monotone table, its roots and a plan, as `read_records`, `lay_out` and `marks_by_position` leave them.
+// monotone table, its roots and a plan, as `decode`, `lay_out` and `marks_by_position` leave them.
 fn up_and_down<'a>(
     n: usize,
     positions: &'a [u8; 256],

@@ -5,32 +5,30 @@ use native.Mathlib.Omega.{arith}
 use mathlib.Core.Path.{_≡_, _∙_}
 use lib.ListN.{length, getD}
 use borrow.Author.Needs.{needs}
-use Rattle.decoding.specs.Decoding.{tableIn}
-use Rattle.decoding.proofs.Standing.{variables-in}
+use Rattle.decoding.specs.Decoding.{variablesIn}
 use Rattle.scoring.specs.Passes.{products}
-use Rattle.scoring.proofs.Arcing.{From, from-start, from-next, from-all, suffix, suffix-past, suffix-down, suffix-fits}
+use Rattle.scoring.proofs.Arcing.{From, from-start, from-next, from-all, suffix, suffix-past, suffix-down, suffix-fits, held-length}
 use Rattle.scoring.proofs.arcs.products.Statement.{statement}
 use Rattle.scoring.proofs.arcs.products.Tie as tie
 
 abbrev Inv-loop : tie.InvT-loop
-Inv-loop t products₀ p₀ products p = (p ≤ t .variables) × (p ≤ 60) × From (suffix t) p products
+Inv-loop words v products₀ p₀ products p = (p ≤ v) × (p ≤ 60) × From (suffix (variablesIn words v)) p products
 
 abbrev μ-loop : tie.MeasureT-loop
-μ-loop t products₀ p₀ products p = p
+μ-loop words v products₀ p₀ products p = p
 
 -- what the turn writes
-product-read : (c : tie.After-share-sum Inv-loop μ-loop) → getD (c .before .before .before .loop .products) (c .before .before .before .loop .p - 1 + 1) 0 * c .share-sum .result ≡ suffix (c .before .before .before .before .args .t1) (c .before .before .before .loop .p - 1)
+product-read : (c : tie.After-share-sum Inv-loop μ-loop) → getD (c .before .before .before .loop .products) (c .before .before .before .loop .p - 1 + 1) 0 * c .share-sum .result ≡ suffix (variablesIn (c .before .before .before .before .args .words .now) (c .before .before .before .before .args .v)) (c .before .before .before .loop .p - 1)
 product-read c =
-    let t = c .before .before .before .before .args .t1 in
+    let a = c .before .before .before .before .args in
     let p = c .before .before .before .loop .p in
-    suffix-down t (p - 1) (omega (arith, c .before .before .before .loop .inv .0)) (c .before .before .before .loop .inv .2 .at (p - 1 + 1) (omega arith) (omega arith)) (c .share-sum .ensures)
+    suffix-down (a .words .now) (a .v) (p - 1) (omega (arith, c .before .before .before .loop .inv .0)) (c .before .before .before .loop .inv .2 .at (p - 1 + 1) (omega arith) (omega arith)) (c .share-sum .ensures)
 
 loop-holds : tie.Need-loop-holds Inv-loop μ-loop
 loop-holds c =
-    let t = c .args .t1 in
-    let v = variables-in t in
-    let few = c .pre .valid .variables in
-    (omega arith, omega arith, from-start _ 1 (λ x l. suffix-past (tableIn t .variables) x (omega arith)))
+    let a = c .args in
+    let long = held-length (a .words .now) (a .v) in
+    (omega arith, c .pre .0, from-start _ 1 (λ x l. suffix-past (variablesIn (a .words .now) (a .v)) x (omega (arith, long))))
 
 sub-p : tie.Need-sub-p Inv-loop μ-loop
 sub-p c = search needs
@@ -60,7 +58,7 @@ share-sum-requires : tie.Need-share-sum-requires Inv-loop μ-loop
 share-sum-requires c κs = search needs
 
 mul-products : tie.Need-mul-products Inv-loop μ-loop
-mul-products c = rw (product-read c) (omega (arith, suffix-fits (c .before .before .before .before .pre) (c .before .before .before .loop .p - 1)))
+mul-products c = rw (product-read c) (omega (arith, suffix-fits (c .before .before .before .before .pre .1) (c .before .before .before .before .pre .2) (c .before .before .before .loop .p - 1)))
 
 cast-products : tie.Need-cast-products Inv-loop μ-loop
 cast-products c = search needs

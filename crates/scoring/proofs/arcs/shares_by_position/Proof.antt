@@ -3,44 +3,45 @@
 use Prim.Native.Nat.{ℕ, _-_, _≤_, _<_}
 use native.Mathlib.Omega.{arith}
 use mathlib.Core.Path.{_≡_, ap, sym, _∙_}
+use mathlib.Core.List.{List}
 use lib.ListN.{length, getD, List·getD-eq-default}
 use borrow.Author.Needs.{needs}
 use Rattle.diagram.specs.Table.{Variable, chance, variableOf}
-use Rattle.decoding.specs.declared.table.Decoded.{Decoded}
-use Rattle.decoding.specs.Decoding.{tableIn}
-use Rattle.decoding.proofs.Standing.{variables-in, variable-in}
+use Rattle.decoding.specs.Decoding.{variablesIn}
 use Rattle.scoring.specs.Value.{highShare, lowShare}
 use Rattle.scoring.specs.Passes.{sharesBy}
-use Rattle.scoring.proofs.Arcing.{From, from-start, from-next, from-all}
+use Rattle.scoring.proofs.Arcing.{From, from-start, from-next, from-all, held-length, held-variable}
 use Rattle.scoring.proofs.arcs.shares_by_position.Statement.{statement}
 use Rattle.scoring.proofs.arcs.shares_by_position.Tie as tie
 
--- the variable at a position of a decoded table, and the default past the last
-abbrev variable : Decoded → ℕ → Variable
-variable t x = getD (tableIn t .variables) x (chance 0 1)
+-- the variable at a position, and the default past the last
+abbrev variable : (words : List ℕ) → (v x : ℕ) → Variable
+variable words v x = getD (variablesIn words v) x (chance 0 1)
 
 abbrev Inv-loop : tie.InvT-loop
-Inv-loop t high₀ low₀ p₀ high low p =
-    (p ≤ t .variables) × (p < 64) × From (λ x. highShare (variable t x) 1) p high × From (λ x. lowShare (variable t x) 2) p low
+Inv-loop words v high₀ low₀ p₀ high low p =
+    (p ≤ v) × (p < 64) × From (λ x. highShare (variable words v x) 1) p high × From (λ x. lowShare (variable words v x) 2) p low
 
 abbrev μ-loop : tie.MeasureT-loop
-μ-loop t high₀ low₀ p₀ high low p = p
+μ-loop words v high₀ low₀ p₀ high low p = p
 
 -- the variable that a turn reads
-variable-read : (c : tie.After-w Inv-loop μ-loop) → let t = c .before .before .before .args .t1 in variableOf (getD (t .words) (c .before .before .loop .p - 1) 0) ≡ variable t (c .before .before .loop .p - 1)
-variable-read c = sym (variable-in (c .before .before .before .args .t1) (c .before .before .loop .p - 1) (omega (arith, c .before .before .loop .inv .0)))
+variable-read : (c : tie.After-w Inv-loop μ-loop) → let a = c .before .before .before .args in variableOf (getD (a .words .now) (c .before .before .loop .p - 1) 0) ≡ variable (a .words .now) (a .v) (c .before .before .loop .p - 1)
+variable-read c =
+    let a = c .before .before .before .args in
+    sym (held-variable (a .words .now) (a .v) (c .before .before .loop .p - 1) (omega (arith, c .before .before .loop .inv .0)))
 
 loop-holds : tie.Need-loop-holds Inv-loop μ-loop
 unfolding highShare lowShare
 loop-holds c =
-    let t = c .args .t1 in
-    let v = variables-in t in
-    let few = c .pre .valid .variables in
-    let past : (x : ℕ) → length (tableIn t .variables) ≤ x → variable t x ≡ chance 0 1 = λ x l. List·getD-eq-default (tableIn t .variables) (chance 0 1) {n = x} l in (
+    let a = c .args in
+    let vs = variablesIn (a .words .now) (a .v) in
+    let long = held-length (a .words .now) (a .v) in
+    let past : (x : ℕ) → length vs ≤ x → variable (a .words .now) (a .v) x ≡ chance 0 1 = λ x l. List·getD-eq-default vs (chance 0 1) {n = x} l in (
       omega arith,
-      omega arith,
-      from-start _ 0 (λ x l. ap (λ (v : Variable). highShare v 1) (past x (omega arith))),
-      from-start _ 1 (λ x l. ap (λ (v : Variable). lowShare v 2) (past x (omega arith))),
+      omega (arith, c .pre),
+      from-start _ 0 (λ x l. ap (λ (v : Variable). highShare v 1) (past x (omega (arith, long)))),
+      from-start _ 1 (λ x l. ap (λ (v : Variable). lowShare v 2) (past x (omega (arith, long)))),
     )
 
 sub-p : tie.Need-sub-p Inv-loop μ-loop

@@ -2,12 +2,13 @@
 -- nothing.
 use Prim.Native.Nat.{_-_, _≤_}
 use native.Mathlib.Omega.{arith}
-use mathlib.Core.Path.{_≡_, refl, _∙_}
+use mathlib.Core.Path.{_≡_, refl, ap, _∙_}
 use borrow.Author.Needs.{needs}
 use Rattle.decoding.specs.Decoding.{tableIn}
-use Rattle.decoding.proofs.Standing.{records-in}
+use Rattle.decoding.proofs.Standing.{variables-in, records-in}
 use Rattle.scoring.specs.Value.{highArc, lowArc}
-use Rattle.scoring.proofs.Arcing.{Written, written-start, written-next, written-all, Weighs, high-weighs, low-weighs}
+use Rattle.scoring.specs.Passes.{products, highShares, lowShares}
+use Rattle.scoring.proofs.Arcing.{Written, written-start, written-next, written-all, Weighs, high-weighs, low-weighs, table-variables}
 use Rattle.scoring.proofs.weights.lay_out.Statement.{statement}
 use Rattle.scoring.proofs.weights.lay_out.Tie as tie
 
@@ -21,22 +22,33 @@ abbrev μ-loop : tie.MeasureT-loop
 -- ---------------------------------------------------------------------------
 -- The two arcs of a turn
 
-high-arc : (c : tie.After-of-record Inv-loop μ-loop) → let t = c .before .before .before .before .before .args .t1 in Weighs (c .before .before .before .before .products .result) (c .before .before .before .shares-by-position .result .high) (t .positions) (t .high) (c .of-record .result .0) (highArc (tableIn t) (c .before .before .loop .k))
-high-arc c =
-    rw (c .of-record .ensures) (high-weighs (c .before .before .before .before .before .pre .0) (c .before .before .before .before .products .ensures) (c .before .before .loop .k) (omega arith) (c .before .before .before .shares-by-position .ensures .0))
+-- the products and the shares are the table's
+products-are : (c : tie.After-products Inv-loop μ-loop) → c .products .result ≡ products (tableIn (c .before .before .before .args .t1) .variables)
+products-are c = c .products .ensures ∙ ap products (table-variables _)
 
-low-arc : (c : tie.After-of-record Inv-loop μ-loop) → let t = c .before .before .before .before .before .args .t1 in Weighs (c .before .before .before .before .products .result) (c .before .before .before .shares-by-position .result .low) (t .positions) (t .low) (c .of-record .result .0) (lowArc (tableIn t) (c .before .before .loop .k))
+high-arc : (c : tie.After-of-record Inv-loop μ-loop) → let t = c .before .before .before .before .before .before .before .before .before .args .t1 in Weighs (c .before .before .before .before .before .before .products .result) (c .before .before .before .shares-by-position .result .high) (t .positions) (t .high) (c .of-record .result .0) (highArc (tableIn t) (c .before .before .loop .k))
+high-arc c =
+    rw (c .of-record .ensures) (high-weighs (c .before .before .before .before .before .before .before .before .before .pre .0) (products-are (c .before .before .before .before .before .before)) (c .before .before .loop .k) (omega arith) (c .before .before .before .shares-by-position .ensures .0 ∙ ap highShares (table-variables _)))
+
+low-arc : (c : tie.After-of-record Inv-loop μ-loop) → let t = c .before .before .before .before .before .before .before .before .before .args .t1 in Weighs (c .before .before .before .before .before .before .products .result) (c .before .before .before .shares-by-position .result .low) (t .positions) (t .low) (c .of-record .result .0) (lowArc (tableIn t) (c .before .before .loop .k))
 low-arc c =
-    rw (c .of-record .ensures) (low-weighs (c .before .before .before .before .before .pre .0) (c .before .before .before .before .products .ensures) (c .before .before .loop .k) (omega arith) (c .before .before .before .shares-by-position .ensures .1))
+    rw (c .of-record .ensures) (low-weighs (c .before .before .before .before .before .before .before .before .before .pre .0) (products-are (c .before .before .before .before .before .before)) (c .before .before .loop .k) (omega arith) (c .before .before .before .shares-by-position .ensures .1 ∙ ap lowShares (table-variables _)))
 
 -- ---------------------------------------------------------------------------
 -- The needs
 
+-- there are at most 60 variables
+few : (c : tie.Start Inv-loop μ-loop) → c .args .t1 .variables ≤ 60
+few c = omega (arith, variables-in (c .args .t1), c .pre .0 .valid .variables)
+
 products-requires : tie.Need-products-requires Inv-loop μ-loop
-products-requires c κs = search needs
+products-requires c κs =
+    let valid = c .before .before .pre .0 .valid in
+    let vs = table-variables (c .before .before .args .t1) in
+    (few (c .before .before), rw vs (valid .shares), rw vs (valid .product))
 
 shares-by-position-requires : tie.Need-shares-by-position-requires Inv-loop μ-loop
-shares-by-position-requires c κs = search needs
+shares-by-position-requires c κs = few (c .before .before .before .before .before)
 
 element-write-high-arcs : tie.Need-element-write-high-arcs Inv-loop μ-loop
 element-write-high-arcs c = search needs
@@ -52,8 +64,8 @@ element-write-low-arcs-2 c = search needs
 
 loop-holds : tie.Need-loop-holds Inv-loop μ-loop
 loop-holds c =
-    let start = c .before .before in
-    let few = start .pre .0 .valid .records in
+    let start = c .before .before .before .before .before .before in
+    let records = start .pre .0 .valid .records in
     let sizes = start .pre .1 in
     (omega arith, omega (arith, records-in (start .args .t1)), written-start (start .args .high-arcs .now) (sizes .0) refl, written-start (start .args .low-arcs .now) (sizes .1) refl)
 
@@ -97,12 +109,12 @@ loop-again c =
     (omega arith, inv .1, written-next _ (inv .2) (omega arith) refl (c .before .before .before .before .before .before .before .arc-weight .ensures ∙ high-arc read .weight), written-next _ (inv .3) (omega arith) refl (c .arc-weight2 .ensures ∙ low-arc read .weight))
 
 roots-of-requires : tie.Need-roots-of-requires Inv-loop μ-loop
-roots-of-requires c κs = (c .before .before .before .before .before .pre .0, c .before .before .before .before .products .ensures)
+roots-of-requires c κs = (c .before .before .before .before .before .before .before .before .before .pre .0, products-are (c .before .before .before .before .before .before))
 
 returns : tie.Need-returns Inv-loop μ-loop
 returns c =
     let at = c .before .before .before .loop in
-    let start = c .before .before .before .before .before .before in
+    let start = c .before .before .before .before .before .before .before .before .before .before in
     let e : at .k ≡ start .args .t1 .records = omega (arith, c .before .before .loop-test .left, at .inv .0) in (
       written-all (start .args .high-arcs .now) (rw e at (at .inv .2)) refl,
       (written-all (start .args .low-arcs .now) (rw e at (at .inv .3)) refl, c .roots-of .ensures),
