@@ -18,7 +18,7 @@ use Rattle.diagram.proofs.Every.{both, and-true-both}
 use Rattle.diagram.proofs.Implication.{implies-false-end, implies-true-end, implies-same, implies-ends}
 use Rattle.decoding.specs.declared.table.Decoded.{Decoded}
 use Rattle.decoding.specs.Decoding.{tableIn}
-use Rattle.implication.specs.Nodes.{recordsOf, endOf, Checkable, askedNode, Pairs, next, smaller, cell, AtOnce, zeros, Met, Room, PassedOn, Waits, Stack}
+use Rattle.implication.specs.Nodes.{recordsOf, endOf, Checkable, askedNode, Pairs, next, smaller, cell, AtOnce, zeros, Met, Room, pushed, PassedOn, Waits, Stack}
 use Rattle.implication.proofs.Cells.{cell-le, origin-cell, only-known, zeros-marked}
 use Rattle.implication.proofs.Pairing.{Meets, next-le, next-less, next-later, next-split, position-few, held-asked}
 
@@ -49,14 +49,39 @@ start {ps} {hs} {ls} pairs none p q =
 -- ---------------------------------------------------------------------------
 -- A pair is met
 
+-- an array of the stack after a pair is met
+pushed-length : (c : ℕ) (xs : List ℕ) (depth x : ℕ) → length (pushed c xs depth x) ≡ length xs
+unfolding pushed
+pushed-length zero xs depth x = length-set xs depth x
+pushed-length (suc c) xs depth x = refl
+
+pushed-kept : (c : ℕ) (xs : List ℕ) (depth x j : ℕ) → j < depth → getD (pushed c xs depth x) j 0 ≡ getD xs j 0
+unfolding pushed
+pushed-kept zero xs depth x j l = getD-set-other xs depth j x 0 (λ e. omega arith)
+pushed-kept (suc c) xs depth x j l = refl
+
+pushed-top : (c : ℕ) (xs : List ℕ) (depth x : ℕ) → c < 1 → depth < length xs → getD (pushed c xs depth x) depth 0 ≡ x
+unfolding pushed
+pushed-top zero xs depth x f l = getD-set-same xs depth x 0 l
+pushed-top (suc c) xs depth x f l = absurd (omega arith)
+
+-- at the cell that the code has read, and the byte that it writes
+pub pushed-none : {c : ℕ} → c ≡ 1 → (xs : List ℕ) (depth x : ℕ) → xs ≡ pushed c xs depth x
+unfolding pushed
+pushed-none e xs depth x = rw e refl
+
+pub pushed-one : {c : ℕ} → c ≡ 0 → (xs : List ℕ) (depth x : ℕ) {byte : ℕ} → byte ≡ x → set xs depth byte ≡ pushed c xs depth x
+unfolding pushed
+pushed-one e xs depth x is = rw (e, is) refl
+
 -- the arrays before and after the pair m, n is met
 pub record Meeting (met firsts seconds : List ℕ) (depth m n : ℕ) (met′ firsts′ seconds′ : List ℕ) (depth′ : ℕ) : Type 0 where
   pub m-small : m < 256
   pub n-small : n < 256
   pub end : depth′ ≡ depth + (1 - cell met m n)
   pub cells : Met met met′ m n
-  pub ones : firsts′ ≡ set firsts depth m
-  pub twos : seconds′ ≡ set seconds depth n
+  pub ones : firsts′ ≡ pushed (cell met m n) firsts depth m
+  pub twos : seconds′ ≡ pushed (cell met m n) seconds depth n
 
 module _ {ps hs ls met firsts seconds met′ firsts′ seconds′ : List ℕ} {c d x y depth depth′ m n : ℕ} (h : Stack ps hs ls met firsts seconds c d x y depth) (g : Meeting met firsts seconds depth m n met′ firsts′ seconds′ depth′) where
   -- what is still to be met and what waits are as many as before
@@ -72,24 +97,24 @@ module _ {ps hs ls met firsts seconds met′ firsts′ seconds′ : List ℕ} {c
   here : cell met′ m n ≡ 1
   here = g .cells .here
 
-  -- the stack is as it was, and m, n stands on it
+  -- the stack is as it was, and m, n stands on it if it is new
   first-kept : (j : ℕ) → j < depth → getD firsts′ j 0 ≡ getD firsts j 0
-  first-kept j l = rw (g .ones) (getD-set-other firsts depth j m 0 (λ e. omega arith))
+  first-kept j l = rw (g .ones) (pushed-kept (cell met m n) firsts depth m j l)
 
   second-kept : (j : ℕ) → j < depth → getD seconds′ j 0 ≡ getD seconds j 0
-  second-kept j l = rw (g .twos) (getD-set-other seconds depth j n 0 (λ e. omega arith))
+  second-kept j l = rw (g .twos) (pushed-kept (cell met m n) seconds depth n j l)
 
-  first-new : getD firsts′ depth 0 ≡ m
-  first-new =
+  first-new : cell met m n < 1 → getD firsts′ depth 0 ≡ m
+  first-new f =
       let shallow = h .room .shallow in
       let size = h .room .firstsSize in
-      rw (g .ones) (getD-set-same firsts depth m 0 (omega arith))
+      rw (g .ones) (pushed-top (cell met m n) firsts depth m f (omega arith))
 
-  second-new : getD seconds′ depth 0 ≡ n
-  second-new =
+  second-new : cell met m n < 1 → getD seconds′ depth 0 ≡ n
+  second-new f =
       let shallow = h .room .shallow in
       let size = h .room .secondsSize in
-      rw (g .twos) (getD-set-same seconds depth n 0 (omega arith))
+      rw (g .twos) (pushed-top (cell met m n) seconds depth n f (omega arith))
 
   -- what holds of the pairs on the stack, and of m, n if it is new, holds of those on the stack now
   each-slot : (P : ℕ → ℕ → ℕ → Type 0) → ((j : ℕ) → j < depth → P j (getD firsts j 0) (getD seconds j 0)) → (cell met m n < 1 → P depth m n) → (j : ℕ) → j < depth′ → P j (getD firsts′ j 0) (getD seconds′ j 0)
@@ -99,7 +124,8 @@ module _ {ps hs ls met firsts seconds met′ firsts′ seconds′ : List ℕ} {c
       (λ l.
       let end = g .end in
       let e : j ≡ depth = omega arith in
-      rw (e, first-new, second-new) (new (omega arith)))
+      let f : cell met m n < 1 = omega arith in
+      rw (e, first-new f, second-new f) (new f))
 
   carried : (a b : ℕ) → AtOnce a b ⊎ (PassedOn ps hs ls met a b ⊎ (Waits firsts seconds depth a b ⊎ ((a ≡ x) × (b ≡ y)))) → AtOnce a b ⊎ (PassedOn ps hs ls met′ a b ⊎ (Waits firsts′ seconds′ depth′ a b ⊎ ((a ≡ x) × (b ≡ y))))
   carried a b (inl e) = inl e
@@ -124,7 +150,7 @@ module _ {ps hs ls met firsts seconds met′ firsts′ seconds′ : List ℕ} {c
   fresh-waits a b f (p, q) =
       let end = g .end in
       let f′ = rw (p, q) at f in
-      record { slot = depth; below = omega arith; first = first-new ∙ sym p; second = second-new ∙ sym q }
+      record { slot = depth; below = omega arith; first = first-new f′ ∙ sym p; second = second-new f′ ∙ sym q }
 
   -- m, n stands late enough, if it is new
   module _ (late : cell met m n < 1 → depth ≤ smaller ps m n + 1) where
@@ -141,8 +167,8 @@ module _ {ps hs ls met firsts seconds met′ firsts′ seconds′ : List ℕ} {c
     roomy =
         record {
           size = g .cells .size ∙ h .room .size;
-          firstsSize = rw (g .ones) (simp length-set (h .room .firstsSize));
-          secondsSize = rw (g .twos) (simp length-set (h .room .secondsSize));
+          firstsSize = rw (g .ones) (pushed-length (cell met m n) firsts depth m ∙ h .room .firstsSize);
+          secondsSize = rw (g .twos) (pushed-length (cell met m n) seconds depth n ∙ h .room .secondsSize);
           shallow = still-shallow;
         }
 

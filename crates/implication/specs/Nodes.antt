@@ -1,11 +1,11 @@
 -- Check 18 of a decoded table: the pairs of nodes that are met, and the stack of those to be passed on.
 use Prim.Native.Nat.{ℕ, zero, suc, _+_, _-_, _*_, _/_, _%_, _^_, _≤_, _<_, min}
 use mathlib.Core.Path.{_≡_}
-use mathlib.Core.Bool.{Bool, true, false, cond, not}
+use mathlib.Core.Bool.{Bool, true, cond, not}
 use mathlib.Core.Logic.{_⊎_}
 use mathlib.Core.Option.{Option}
 use mathlib.Core.List.{List}
-use lib.ListN.{length, getD}
+use lib.ListN.{length, getD, set}
 use lib.Dec.{eqb, leb}
 use Rattle.diagram.specs.Table.{Record, Table, sequence, variableOf, isChoice}
 use Rattle.diagram.specs.Score.{implies}
@@ -98,6 +98,11 @@ pub record Room (met firsts seconds : List ℕ) (depth : ℕ) : Type 0 where
   pub firstsSize : length firsts ≡ 128
   pub secondsSize : length seconds ≡ 128
   pub shallow : depth ≤ 62
+
+-- An array of the stack after a pair is met: x is written on top where the pair's cell was 0
+unfoldable pub pushed : (cell : ℕ) → List ℕ → (depth x : ℕ) → List ℕ
+pushed zero xs depth x = set xs depth x
+pushed (suc _) xs depth x = xs
 
 -- Both pairs that m, n leads to have been met
 pub record PassedOn (ps hs ls met : List ℕ) (m n : ℕ) : Type 0 where

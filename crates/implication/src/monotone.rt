@@ -13,10 +13,10 @@ use diagram::Position;
 use steps::Fault;
 ghost use mathlib.Core.Path.{_≡_};
 ghost use Prim.Native.Nat.{ℕ, suc, _+_, _-_, _<_};
-ghost use lib.ListN.{length, getD, set};
+ghost use lib.ListN.{length, getD};
 ghost use lib.Dec.{eqb};
 ghost use Rattle.decoding.specs.Decoding.{tableIn};
-ghost use Rattle.implication.specs.Nodes.{Checkable, monotoneFaultIn, askedNode, next, isKnown, cell, zeros, Met, Room, Stack};
+ghost use Rattle.implication.specs.Nodes.{Checkable, monotoneFaultIn, askedNode, next, isKnown, cell, zeros, Met, Room, pushed, Stack};
 ghost use Rattle.steps.specs.Steps.{faultOf};
 
 // Check 18, of a decoded table whose records are formed, as check 17 leaves them.
@@ -130,7 +130,7 @@ fn step(positions: &[u8; 256], children: &[u8; 256], m: Node, n: Node) -> Node
     if p.number() <= q.number() { child } else { m }
 }
 
-// Writes a pair on top of the stack, whose depth rises only where the pair is neither known to imply nor met before.
+// Puts a pair on top of the stack, unless it is known to imply or has been met before. Answers the new depth.
 fn meet(
     met: &mut [u64; 1024],
     firsts: &mut [u8; 128],
@@ -142,14 +142,14 @@ fn meet(
     requires { ⌜ Room (now met) (now firsts) (now seconds) depth ⌝ }
     ensures depth { λ r. ⌜ r ≡ depth + (1 - cell (now (met .entry)) (m .0) (n .0)) ⌝ }
     ensures met { λ _. ⌜ Met (now (met .entry)) (now (met .exit)) (m .0) (n .0) ⌝ }
-    ensures firsts { λ _. ⌜ now (firsts .exit) ≡ set (now (firsts .entry)) depth (m .0) ⌝ }
-    ensures seconds { λ _. ⌜ now (seconds .exit) ≡ set (now (seconds .entry)) depth (n .0) ⌝ }
+    ensures firsts { λ _. ⌜ now (firsts .exit) ≡ pushed (cell (now (met .entry)) (m .0) (n .0)) (now (firsts .entry)) depth (m .0) ⌝ }
+    ensures seconds { λ _. ⌜ now (seconds .exit) ≡ pushed (cell (now (met .entry)) (m .0) (n .0)) (now (seconds .entry)) depth (n .0) ⌝ }
 {
-    firsts[depth] = m.byte();
-    seconds[depth] = n.byte();
     if is_met(met, m, n) {
         return depth;
     }
+    firsts[depth] = m.byte();
+    seconds[depth] = n.byte();
     mark(met, m, n);
     depth + 1
 }

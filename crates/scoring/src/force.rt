@@ -1,10 +1,10 @@
 // The arcs that are in force under a plan.
-use diagram::Node;
-use diagram::Plan;
-use diagram::Position;
 use decoding::Decoded;
 use decoding::is_choice_at;
 use decoding::position_of;
+use diagram::Node;
+use diagram::Plan;
+use diagram::Position;
 ghost use mathlib.Core.Path.{_≡_};
 ghost use Prim.Native.Nat.{ℕ, _≤_, _<_, _+_};
 ghost use lib.ListN.{length, getD};

@@ -1,9 +1,9 @@
 // The roots of a table as the passes want them, and the sum over them.
 use crate::bound::value_of;
-use diagram::Node;
-use diagram::Position;
 use decoding::Decoded;
 use decoding::position_of;
+use diagram::Node;
+use diagram::Position;
 ghost use mathlib.Core.Path.{_≡_};
 ghost use Prim.Native.Nat.{_/_, _≤_, _<_, _^_};
 ghost use lib.ListN.{getD};

@@ -33,10 +33,10 @@ use Rattle.layers.specs.Chains.{pick, joined, placed}
 use Rattle.layers.specs.Layers.{Layers}
 use Rattle.layers.specs.Flows.{Stand, Line}
 use Rattle.layers.specs.Lines.{firstRank, ownRank, nextRank, lineNumber, lineKits}
-use Rattle.search.specs.State.{priced, rows, padded, openFrom, openLines, choicePosition, Ranked, numbersFrom, Holds, Scene, Visitable, ruled, Visited, Arrays, Ending, Arranged, Searched}
+use Rattle.layout.specs.Layout.{Ending, Arranged}
+use Rattle.search.specs.State.{priced, rows, padded, openFrom, openLines, choicePosition, Ranked, numbersFrom, Holds, Scene, Visitable, ruled, Visited, Searched}
 use Rattle.search.proofs.OpenLines.{lines-length}
 use Rattle.search.proofs.Priced.{priced-formed, priced-monotone, priced-bound, priced-passing, priced-layered, priced-line}
-use Rattle.layers.proofs.Ordering.{nodesAt, position-below, ends-rising, ends-mono, before-position, at-position, after-position, position-sum}
 
 -- ---------------------------------------------------------------------------
 -- The positions of the choices
@@ -382,51 +382,3 @@ first-explored {t} {p} valid kits {percent} {budget} {least} {from} {counted} {o
     let monotone = priced-monotone list t (valid .monotone) in
     let done : ruled (firstScene kits t p order percent budget least) counted ≡ visits.visited u budget percent p = rw e (sym (visited-rule u formed monotone budget percent p)) in
     record { holds = rw done at (v .holds); counts = v .counts ∙ ap (λ (w : visits.Tally). w .visits) done }
-
--- ---------------------------------------------------------------------------
--- What the search lays out
-
--- the arrays hold the table and the plan
-pub arrays-marked : {d : Decoded} {p : List ℕ} → Sound d → {rs : Roots} {ha la ms : List ℕ} → Arrays d rs ha la → (length p ≡ choiceCount (tableIn d .variables)) × Legal p → ms ≡ marksByPosition (tableIn d) p → Marked (tableIn d) p (d .records) (d .positions) (d .high) (d .low) ha la ms
-arrays-marked {d} {p} sound arrays plan marks =
-    marked sound p (replicate 256 0) (replicate 256 0) (plan .0) (plan .1) (arrays .high-arcs) (arrays .low-arcs) marks
-
-module _ {t : Table} {p : List ℕ} {n : ℕ} {ps hs ls ha la ms : List ℕ} (m : Marked t p n ps hs ls ha la ms) {v : ℕ} (variables : v ≡ length (t .variables)) where
-  few : length (t .records) ≤ 254
-  few = omega (arith, m .size)
-
-  -- what `order_records` asks for
-  pub records-placed : (k : ℕ) → k < n → getD ps (k + 2) 0 < v
-  records-placed k h =
-      rw variables (position-below t (m .formed) few (m .few) (m .positions) refl refl k (omega (arith, m .size)))
-
-  module _ {order : List ℕ} (ordered : order ≡ placed (replicate 1040 0) 0 (joined (λ x. pick ps 0 x n) v)) where
-    -- the nodes in order, as the laws of the layout have them
-    pub order-is : order ≡ placed (replicate 1040 0) 0 (joined (nodesAt ps n) (length (t .variables)))
-    order-is = rw variables at ordered
-
-    order-same : order ≡ placed (replicate 1040 0) 0 (joined (nodesAt ps (length (t .records))) (length (t .variables)))
-    order-same = rw (m .size .0, variables) at ordered
-
-    -- how many nodes stand before each position
-    module _ (some : 1 ≤ length (t .variables)) {ends : List ℕ} (ended : ends ≡ over (sequence (λ x. length (joined (λ y. pick ps 0 y n) x)) 0 (v + 1)) (replicate 256 0)) where
-      ends-same : ends ≡ over (sequence (λ x. length (joined (nodesAt ps (length (t .records))) x)) 0 (length (t .variables) + 1)) (replicate 256 0)
-      ends-same = rw (m .size .0, variables) at ended
-
-      ends-within : (x : ℕ) → x ≤ length (t .variables) → getD ends x 0 ≤ length (t .records)
-      ends-within x h =
-          let y = length (t .variables) in
-          let last : y - 1 + 1 ≡ y = omega arith in
-          let top = rw last at (ends-rising t (m .formed) few (m .few) (m .positions) order-same ends-same (y - 1) (omega arith) .1) in
-          omega (arith, top, ends-mono t (m .formed) few (m .few) (m .positions) order-same ends-same x y h (omega arith))
-
-      pub ending : Ending t order ends
-      ending =
-          record {
-            rising = ends-mono t (m .formed) few (m .few) (m .positions) order-same ends-same;
-            within = ends-within;
-            before = before-position t (m .formed) few (m .few) (m .positions) order-same ends-same;
-            here = at-position t (m .formed) few (m .few) (m .positions) order-same ends-same;
-            after = after-position t (m .formed) few (m .few) (m .positions) order-same ends-same;
-            sums = position-sum t (m .formed) few (m .few) (m .positions) order-same ends-same;
-          }

@@ -4,25 +4,18 @@ use mathlib.Core.Path.{_≡_}
 use mathlib.Core.List.{List, [], _∷_, _++_}
 use mathlib.Core.Option.{Option, none, some}
 use lib.ListN.{length, getD, take, replicate}
-use Rattle.diagram.specs.Table.{Table, Variable, choice, chance, sequence, choiceCount}
+use Rattle.diagram.specs.Table.{Table, Variable, choice, chance, choiceCount}
 use Rattle.diagram.specs.Score as scores
 use Rattle.diagram.specs.Plans.{openTaken, openCount, cost, upperBound, LeastPassing}
 use Rattle.diagram.specs.Visits as visits
 use Rattle.diagram.specs.declared.plan.Plan.{Plan}
 use Rattle.search.specs.declared.explore.Limits.{Limits}
-use Rattle.decoding.specs.declared.table.Decoded.{Decoded}
-use Rattle.decoding.specs.Decoding.{tableIn}
-use Rattle.scoring.specs.declared.roots.Roots.{Roots}
-use Rattle.scoring.specs.Value.{place, highArc, lowArc}
-use Rattle.scoring.specs.Passes.{over, byNode, RootsHeld, marksByPosition}
 use Rattle.rule.specs.Rule.{terms, rule}
 use Rattle.incumbent.specs.Tally.{cutoff, roomHeld, visitsCounted}
-use Rattle.layers.specs.Chains.{pick, joined, placed}
 use Rattle.layers.specs.Cells.{rootCell}
 use Rattle.layers.specs.Lines.{firstRank, ownRank, nextRank, lineNumber, lineKits}
 use Rattle.layers.specs.Layers.{Layers}
-use Rattle.layers.specs.Weighed.{Laid}
-use Rattle.layers.specs.Flows.{Layered, Line, Settles, Right, Same, rankSum, atSum}
+use Rattle.layers.specs.Flows.{Layered, Line, Settles, Right, Same}
 
 -- ---------------------------------------------------------------------------
 -- Plans
@@ -152,35 +145,7 @@ VisitLeaves l losses lines cells marks best tally unsettled room bound cells′ 
     Visited g (firstRank lines unsettled) (visitsCounted tally) cells marks cells′ marks′ best′ tally′
 
 -- ---------------------------------------------------------------------------
--- The start and the end of a search
-
--- The arrays hold the arcs of a decoded table, as `lay_out` leaves them
-pub record Arrays (d : Decoded) (rs : Roots) (highArcs lowArcs : List ℕ) : Type 0 where
-  pub entering : RootsHeld (tableIn d) rs
-  pub high-arcs : highArcs ≡ over (byNode (highArc (tableIn d)) (d .records)) (replicate 256 0)
-  pub low-arcs : lowArcs ≡ over (byNode (lowArc (tableIn d)) (d .records)) (replicate 256 0)
-
--- The marks by position, and the nodes and arcs in order, as `arrange` leaves them
-pub record Ordered (d : Decoded) (p : List ℕ) (rs : Roots) (highArcs lowArcs marks ends order : List ℕ) (l : Layers) : Type 0 where
-  pub marking : marks ≡ marksByPosition (tableIn d) p
-  pub nodes : order ≡ placed (replicate 1040 0) 0 (joined (λ x. pick (d .positions) 0 x (d .records)) (length (tableIn d .variables)))
-  pub ending : ends ≡ over (sequence (λ x. length (joined (λ y. pick (d .positions) 0 y (d .records)) x)) 0 (length (tableIn d .variables) + 1)) (replicate 256 0)
-  pub laid : Laid (d .records) rs (d .positions) (d .high) (d .low) highArcs lowArcs marks order l
-
--- `ends` has how many nodes of the order stand before each position: those before stand there, those from there to the next at it, and those after later
-pub record Ending (t : Table) (order ends : List ℕ) : Type 0 where
-  pub rising : (x y : ℕ) → x ≤ y → y ≤ length (t .variables) → getD ends x 0 ≤ getD ends y 0
-  pub within : (x : ℕ) → x ≤ length (t .variables) → getD ends x 0 ≤ length (t .records)
-  pub before : (x j : ℕ) → x ≤ length (t .variables) → j < getD ends x 0 → place t (getD order j 0) < x
-  pub here : (x j : ℕ) → x < length (t .variables) → getD ends x 0 ≤ j → j < getD ends (x + 1) 0 → place t (getD order j 0) ≡ x
-  pub after : (x j : ℕ) → x ≤ length (t .variables) → getD ends x 0 ≤ j → j < length (t .records) → x ≤ place t (getD order j 0)
-  pub sums : (x : ℕ) → x < length (t .variables) → (f : ℕ → ℕ) → rankSum (λ j. f (getD order j 0)) (getD ends x 0) (getD ends (x + 1) 0 - getD ends x 0) ≡ atSum t f x (length (t .records))
-
--- The arrays hold table t, laid out for a search from plan p, whose bound it is
-pub record Arranged (t : Table) (p : List ℕ) (bound : ℕ) (ends order : List ℕ) (l : Layers) (losses : List ℕ) : Type 0 where
-  pub bounded : bound ≡ upperBound t p
-  pub layered : Layered t p order l losses
-  pub ending : Ending t order ends
+-- The end of a search
 
 -- What a search from plan p leaves is document 01's
 pub record Searched (t : Table) (percent budget least : ℕ) (p best tally : List ℕ) : Type 0 where

@@ -13,6 +13,7 @@ use explore::explore;
 use incumbent::CUTOFF;
 use incumbent::ROOM;
 use incumbent::VISITS;
+use layout::arrange;
 use reading::ReadAnswer;
 use requesting::accept;
 ghost use mathlib.Core.Path.{_≡_};
@@ -45,7 +46,8 @@ pub fn search(file: &[u8], plan: &[u8], budget: u32, percent: u32, out: &mut [u8
     };
     let mut best = [0u8; 20];
     let mut tally = [0u64; 3];
-    explore(t, plan, limits, &mut best, &mut tally);
+    let layout = arrange(t, plan);
+    explore(t, layout, plan, limits, &mut best, &mut tally);
     if tally[ROOM] == 0 {
         return SearchAnswer::Refused(Refusal {
             number: 32,

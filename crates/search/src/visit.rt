@@ -20,14 +20,14 @@ ghost use Rattle.search.specs.State.{Scene, Visitable, VisitLeaves};
 // counted then; the marks are as before. Lines, starts, sources, arcs and losses hold a table laid out for the search, and the
 // cells the path weights of the nodes before the lowest open line's layer; `first_visit` hands in the first plan. What a layer
 // is entered with stands first, where calls have it in registers.
-pub fn visit(
+pub fn visit<'a>(
     unsettled: usize,
     lines: &[u16; 84],
-    starts: &[u16; 256],
-    sources: &[u16; 1040],
-    arcs: &[u64; 1040],
+    starts: &'a [u16; 256],
+    sources: &'a [u16; 1040],
+    arcs: &'a [u64; 1040],
     cells: &mut [u64; 512],
-    losses: &[u64; 256],
+    losses: &'a [u64; 256],
     marks: &mut [u8; 20],
     best: &mut [u8; 20],
     tally: &mut [u64; 3],
@@ -90,14 +90,14 @@ pub fn visit(
 
 // Visits a plan with one line more taken, where there was such room before it was. One that costs more than the budget is only
 // counted: it goes back, and there is no need of a call.
-fn visit_taken(
+fn visit_taken<'a>(
     unsettled: usize,
     lines: &[u16; 84],
-    starts: &[u16; 256],
-    sources: &[u16; 1040],
-    arcs: &[u64; 1040],
+    starts: &'a [u16; 256],
+    sources: &'a [u16; 1040],
+    arcs: &'a [u64; 1040],
     cells: &mut [u64; 512],
-    losses: &[u64; 256],
+    losses: &'a [u64; 256],
     marks: &mut [u8; 20],
     best: &mut [u8; 20],
     tally: &mut [u64; 3],

@@ -47,13 +47,13 @@ least c = c .least-passing .ensures _ (request-scale (c .before .before .before)
 
 -- what the visits hold and have counted
 searched : (c : tie.After-explore) →
-    let a = c .before .before .before .before .before .before .before .before .before .before .before .before .before .args in
-    Searched (tableOf (a .file .now)) (a .percent) (a .budget) (c .before .before .before .least-passing .result) (a .plan .now) (c .explore .last .1 .1 .1 .0) (c .explore .last .1 .1 .1 .1 .0)
+    let a = c .before .before .before .before .before .before .before .before .before .before .before .before .before .before .args in
+    Searched (tableOf (a .file .now)) (a .percent) (a .budget) (c .before .before .before .before .least-passing .result) (a .plan .now) (c .explore .last .1 .1 .1 .1 .0) (c .explore .last .1 .1 .1 .1 .1 .0)
 searched c =
-    let told = c .before .before .before .before .before .before in
+    let told = c .before .before .before .before .before .before .before in
     let ok = request-proper told in
-    let stands = c .before .before .before .before .before .before .before .before .before .accept .ensures .accepted _ (c .before .before .before .before .before .before .before .answer .given .1) .0 in
-    rw (stands, table-kits told, kits-first _ _ (ok .long), priced-own) at (c .explore .ensures (c .before .before .before .before .before .before .before .before .before .before .before .before .before .args .percent) (rw stands (least (c .before .before .before))))
+    let stands = c .before .before .before .before .before .before .before .before .before .before .accept .ensures .accepted _ (c .before .before .before .before .before .before .before .before .answer .given .1) .0 in
+    rw (stands, table-kits told, kits-first _ _ (ok .long), priced-own) at (c .explore .ensures (c .before .before .before .before .before .before .before .before .before .before .before .before .before .before .args .percent) (rw stands (least (c .before .before .before .before))))
 
 accept-requires : tie.Need-accept-requires
 accept-requires c κs = search needs
@@ -73,41 +73,48 @@ least-passing-requires c κs =
     let ok = request-proper told in
     (ok .percents, omega (arith, request-scale told, passed-scale (ok .passed)))
 
+arrange-requires : tie.Need-arrange-requires
+arrange-requires c κs =
+    let told = c .before .before .before in
+    let ok = request-proper told in
+    let table = c .before .before .before .before .before .before .accept .ensures .accepted _ (c .before .before .before .before .answer .given .1) in
+    (table .1, (rw (table .0) (ok .long), ok .legal))
+
 explore-requires : tie.Need-explore-requires
 explore-requires c κs =
-    let told = c .before .before .before .before .before in
+    let told = c .before .before .before .before .before .before in
     let ok = request-proper told in
-    let table = c .before .before .before .before .before .before .before .before .accept .ensures .accepted _ (c .before .before .before .before .before .before .answer .given .1) in
-    (table .1, ((rw (table .0) (ok .long), ok .legal), ((ok .budgets, (c .before .before .before .before .before .before .before .before .before .before .before .before .args .percent, rw (table .0) (least (c .before .before)))), (refl, refl))))
+    let table = c .before .before .before .before .before .before .before .before .before .accept .ensures .accepted _ (c .before .before .before .before .before .before .before .answer .given .1) in
+    (table .1, ((rw (table .0) (ok .long), ok .legal), ((ok .budgets, (c .before .before .before .before .before .before .before .before .before .before .before .before .before .args .percent, rw (table .0) (least (c .before .before .before)))), ((refl, refl), c .before .before .arrange .ensures))))
 
 array-read-if1 : tie.Need-array-read-if1
 array-read-if1 c = search needs
 
 returns-2 : tie.Need-returns-2
 returns-2 c =
-    let told = c .before .before .before .before .before .before .before in
+    let told = c .before .before .before .before .before .before .before .before in
     let a = told .before .before .before .before .before .before .before .args in
     search-32 (a .file .now) (a .plan .now) (a .out .now) (a .budget) (a .percent) (numbers (told .before .answer .given .0 .0)) (request-answered told) (searched (c .before)) (c .if1 .taken) refl refl
 
 write-requires : tie.Need-write-requires
 write-requires c κs =
-    let told = c .before .before .before .before .before .before .before .before .before in
+    let told = c .before .before .before .before .before .before .before .before .before .before in
     let a = told .before .before .before .before .before .before .before .args in
     let ok = request-proper told in
     (held-long _ _ (a .out .now) _ _ _ (request-answered told) (searched (c .before .before .before)) (c .before .before .if1 .left), omega (arith, ok .sized, passed-choices (ok .passed)))
 
-array-read-t24 : tie.Need-array-read-t24
-array-read-t24 c = search needs
+array-read-t25 : tie.Need-array-read-t25
+array-read-t25 c = search needs
 
-array-read-t34 : tie.Need-array-read-t34
-array-read-t34 c = search needs
+array-read-t35 : tie.Need-array-read-t35
+array-read-t35 c = search needs
 
 same-length : tie.Need-same-length
 same-length c = search needs
 
 returns-3 : tie.Need-returns-3
 returns-3 c =
-    let told = c .before .before .before .before .before .before .before .before .before .before .before .before in
+    let told = c .before .before .before .before .before .before .before .before .before .before .before .before .before in
     let a = told .before .before .before .before .before .before .before .args in
     search-found (a .file .now) (a .plan .now) (a .out .now) (a .budget) (a .percent) (numbers (told .before .answer .given .0 .0)) (request-answered told) (searched (c .before .before .before .before .before .before)) (c .before .before .before .before .before .if1 .left) (c .before .before .write .ensures) refl refl
 
@@ -120,11 +127,12 @@ search-spec =
     enum-known-answer-2
     returns
     least-passing-requires
+    arrange-requires
     explore-requires
     array-read-if1
     returns-2
     write-requires
-    array-read-t24
-    array-read-t34
+    array-read-t25
+    array-read-t35
     same-length
     returns-3)

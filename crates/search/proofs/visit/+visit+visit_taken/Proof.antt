@@ -26,27 +26,27 @@ use Rattle.layers.proofs.leave_line.Reads as leave-line-reads
 use Rattle.search.proofs.visit.+visit+visit_taken.{statement}
 use Rattle.search.proofs.visit.+visit+visit_taken.Tie.{close}
 
-abbrev μ-visit : Measures 9 visit-kinds.ps ℕ
+abbrev μ-visit : Measures 6 visit-kinds.ps ℕ
 μ-visit κs a =
     let unsettled = a .0 in
     unsettled + unsettled
 
-abbrev μ-taken : Measures 9 taken-kinds.ps ℕ
+abbrev μ-taken : Measures 6 taken-kinds.ps ℕ
 μ-taken κs a =
     let unsettled = a .0 in
     unsettled + unsettled + 1
 
-abbrev visit-at : ℕ → In 9 visit-kinds.ps
-visit-at t = and 9 visit-kinds.ps (is 9 visit-kinds.ps μ-visit t) visit.Pre
+abbrev visit-at : ℕ → In 6 visit-kinds.ps
+visit-at t = and 6 visit-kinds.ps (is 6 visit-kinds.ps μ-visit t) visit.Pre
 
-abbrev visit-below : ℕ → In 9 visit-kinds.ps
-visit-below t = and 9 visit-kinds.ps (falls 9 visit-kinds.ps _<_ μ-visit t) visit.Pre
+abbrev visit-below : ℕ → In 6 visit-kinds.ps
+visit-below t = and 6 visit-kinds.ps (falls 6 visit-kinds.ps _<_ μ-visit t) visit.Pre
 
-abbrev taken-at : ℕ → In 9 taken-kinds.ps
-taken-at t = and 9 taken-kinds.ps (is 9 taken-kinds.ps μ-taken t) taken.Pre
+abbrev taken-at : ℕ → In 6 taken-kinds.ps
+taken-at t = and 6 taken-kinds.ps (is 6 taken-kinds.ps μ-taken t) taken.Pre
 
-abbrev taken-below : ℕ → In 9 taken-kinds.ps
-taken-below t = and 9 taken-kinds.ps (falls 9 taken-kinds.ps _<_ μ-taken t) taken.Pre
+abbrev taken-below : ℕ → In 6 taken-kinds.ps
+taken-below t = and 6 taken-kinds.ps (falls 6 taken-kinds.ps _<_ μ-taken t) taken.Pre
 
 -- ---------------------------------------------------------------------------
 -- `visit`

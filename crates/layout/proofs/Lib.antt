@@ -1,0 +1,2 @@
+-- Laws of the nodes in order.
+pub mod Ordered

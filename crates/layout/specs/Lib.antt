@@ -1,0 +1,2 @@
+-- What a table laid out for a search holds.
+pub mod Layout
