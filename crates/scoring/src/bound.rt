@@ -1,10 +1,10 @@
 // The score of a plan with all open lines taken.
 use crate::force::in_force;
 use crate::force::marks_by_position;
-use crate::layout::lay_out;
 use crate::pass::pass_up;
 use crate::roots::Roots;
 use crate::roots::root_sum;
+use crate::weights::lay_out;
 use decoding::Decoded;
 use diagram::Node;
 ghost use mathlib.Core.Path.{_≡_};

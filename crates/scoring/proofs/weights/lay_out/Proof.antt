@@ -8,8 +8,8 @@ use Rattle.decoding.specs.Decoding.{tableIn}
 use Rattle.decoding.proofs.Standing.{records-in}
 use Rattle.scoring.specs.Value.{highArc, lowArc}
 use Rattle.scoring.proofs.Arcing.{Written, written-start, written-next, written-all, Weighs, high-weighs, low-weighs}
-use Rattle.scoring.proofs.layout.lay_out.Statement.{statement}
-use Rattle.scoring.proofs.layout.lay_out.Tie as tie
+use Rattle.scoring.proofs.weights.lay_out.Statement.{statement}
+use Rattle.scoring.proofs.weights.lay_out.Tie as tie
 
 abbrev Inv-loop : tie.InvT-loop
 Inv-loop high-arcs₀ low-arcs₀ table products shares n k₀ high-arcs low-arcs k =
