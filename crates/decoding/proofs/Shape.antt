@@ -14,9 +14,9 @@ use borrow.Author.Tests.{ltb-true, leb-true, not-false}
 use Rattle.diagram.specs.Words.{wordAt, kind, fieldP, fieldQ, fieldR}
 use Rattle.diagram.specs.Table.{Record, recordAt, recordOf, tableOf, variableCount, recordCount, rootCount}
 use Rattle.diagram.specs.Checks.{placeZero, headingFault, recordFault, isHeading, isChild, isRecordWord, positionOf}
+use Rattle.diagram.specs.Validity.{Formed}
 use Rattle.diagram.proofs.Places.{sequence-length, sequence-at, sequence-past, none-at}
 use Rattle.diagram.proofs.Every.{both}
-use Rattle.diagram.proofs.Truth.{Formed}
 use Rattle.decoding.specs.Nodes.{Shaped}
 
 -- ---------------------------------------------------------------------------

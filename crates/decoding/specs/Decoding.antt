@@ -4,9 +4,7 @@ use mathlib.Core.Path.{_≡_}
 use mathlib.Core.List.{List, [], _∷_, _++_}
 use lib.ListN.{length, getD, take, replicate}
 use Rattle.diagram.specs.Table.{Variable, choice, chance, Record, Root, Table, sequence, variableOf, choiceCount, scaleOf, scale}
-use Rattle.diagram.proofs.Truth.{Formed}
-use Rattle.diagram.proofs.FirstVariable.{Shares}
-use Rattle.diagram.proofs.Rising.{Monotone}
+use Rattle.diagram.specs.Validity.{Formed, BoundedShares, Monotone}
 use Rattle.decoding.specs.declared.table.Decoded.{Decoded}
 use Rattle.decoding.specs.Nodes.{column}
 
@@ -88,7 +86,7 @@ pub record Valid (t : Table) : Type 0 where
   pub variables : (1 ≤ length (t .variables)) × (length (t .variables) ≤ 60)
   pub records : (1 ≤ length (t .records)) × (length (t .records) ≤ 254)
   pub choices : choiceCount (t .variables) ≤ 20
-  pub shares : Shares (t .variables)
+  pub shares : BoundedShares (t .variables)
   pub product : scaleOf (t .variables) ≤ 2 ^ 56
   pub formed : Formed (length (t .variables)) (t .records)
   pub roots : length (t .roots) ≤ 16

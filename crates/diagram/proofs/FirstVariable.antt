@@ -1,5 +1,5 @@
 -- How the sum over settlings goes by the first variable, and the bounds of a score that follow.
--- Assumes of the variables, for the bounds, what check 14 finds: see `Shares`.
+-- Assumes of the variables, for the bounds, what check 14 finds: see `BoundedShares`.
 use Prim.Native.Nat.{ℕ, _+_, _-_, _*_, _≤_}
 use native.Mathlib.Nat.{le-refl, add-sub-of-le, one-le-mul, mul-le-mul-left}
 use native.Mathlib.Omega.{arith}
@@ -9,6 +9,7 @@ use mathlib.Core.List.{List, [], _∷_, _++_, map, tail, map-map, map-append}
 use lib.ListN.{getD}
 use Rattle.diagram.specs.Table.{Variable, choice, chance, Root, Table, scaleOf, totalReward, scale}
 use Rattle.diagram.specs.Score.{isTaken, settlings, weight, sum, total, scoreFrom, rewarded, score}
+use Rattle.diagram.specs.Validity.{BoundedShares, no-shares, choice-shares, chance-shares}
 
 -- ---------------------------------------------------------------------------
 -- Sums
@@ -68,13 +69,7 @@ total-same vs p f g h = ap (total vs p) (fun-ext h)
 -- ---------------------------------------------------------------------------
 -- "It runs from 0 to B"
 
--- What check 14 finds of the variables
-pub data Shares : List Variable → Type 0 where
-  no-shares : Shares []
-  choice-shares : {vs : List Variable} → Shares vs → Shares (choice ∷ vs)
-  chance-shares : {a b : ℕ} {vs : List Variable} → a ≤ b → 1 ≤ b → Shares vs → Shares (chance a b ∷ vs)
-
-pub total-le : {vs : List Variable} → Shares vs → (p : List ℕ) (f : List Bool → Bool) → total vs p f ≤ scaleOf vs
+pub total-le : {vs : List Variable} → BoundedShares vs → (p : List ℕ) (f : List Bool → Bool) → total vs p f ≤ scaleOf vs
 unfolding scaleOf
 total-le no-shares p f = rw total-nil (go (f []))
   where
@@ -87,11 +82,11 @@ total-le (chance-shares {a} {b} {vs} ab b1 h) p f =
     let not-held = mul-le-mul-left (b - a) (total-le h p (λ s. f (false ∷ s))) in
     rw total-chance (omega (arith, ap (λ (z : ℕ). z * scaleOf vs) (add-sub-of-le ab)))
 
-pub score-le-scale : (t : Table) → Shares (t .variables) → (p : List ℕ) → score t p ≤ scale t
+pub score-le-scale : (t : Table) → BoundedShares (t .variables) → (p : List ℕ) → score t p ≤ scale t
 unfolding score scoreFrom scale
 score-le-scale t h p = rw (← rewarded-all (scaleOf (t .variables)) (t .roots)) (rewarded-le _ _ (t .roots) (λ n. total-le h p _))
 
-pub scale-positive : {vs : List Variable} → Shares vs → 1 ≤ scaleOf vs
+pub scale-positive : {vs : List Variable} → BoundedShares vs → 1 ≤ scaleOf vs
 unfolding scaleOf
 scale-positive no-shares = le-refl 1
 scale-positive (choice-shares h) = scale-positive h

@@ -14,8 +14,9 @@ use borrow.Author.Tests.{eqb-true, eqb-false, eq-eqb, ne-eqb}
 use Rattle.diagram.specs.Table.{Record, recordAt}
 use Rattle.diagram.specs.Score.{walk, truth, assignments, every, implies}
 use Rattle.diagram.specs.Checks.{positionOf}
+use Rattle.diagram.specs.Validity.{Formed}
 use Rattle.diagram.proofs.Every.{implied, implication, both-ways, all-every, each-assignment}
-use Rattle.diagram.proofs.Truth.{Formed, child-less, truth-false, truth-true, truth-step}
+use Rattle.diagram.proofs.Truth.{child-less, truth-false, truth-true, truth-step}
 use Rattle.diagram.proofs.Locality.{child-later, truth-within}
 
 -- ---------------------------------------------------------------------------

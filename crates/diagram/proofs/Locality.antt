@@ -10,7 +10,8 @@ use lib.ListN.{getD}
 use Rattle.diagram.specs.Table.{Record, recordAt}
 use Rattle.diagram.specs.Score.{truth}
 use Rattle.diagram.specs.Checks.{positionOf}
-use Rattle.diagram.proofs.Truth.{Formed, child-less, truth-false, truth-true, truth-step}
+use Rattle.diagram.specs.Validity.{Formed}
+use Rattle.diagram.proofs.Truth.{child-less, truth-false, truth-true, truth-step}
 
 -- ---------------------------------------------------------------------------
 -- Positions

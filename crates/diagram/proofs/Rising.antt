@@ -11,15 +11,12 @@ use borrow.Author.Tests.{leb-true, le-leb, eqb-true}
 use lib.ListN.{length, getD, set}
 use Rattle.diagram.specs.Table.{Variable, choice, chance, Table, recordAt, isChoice, scale}
 use Rattle.diagram.specs.Score.{isTaken, truth, total, scoreFrom, score, every, implies}
-use Rattle.diagram.specs.Plans.{completions, openTaken, isOpen, leaves, upperBound, derivative, passes}
+use Rattle.diagram.specs.Plans.{completions, Completes, complete, takes, leaves-open, keeps, openTaken, isOpen, leaves, upperBound, derivative, passes}
 use Rattle.diagram.specs.Checks.{isMonotoneAt}
+use Rattle.diagram.specs.Validity.{Formed, Monotone}
 use Rattle.diagram.proofs.Every.{both, implied, every-append, every-map, every-split, each-assignment}
-use Rattle.diagram.proofs.Truth.{Formed, truth-false, truth-true, truth-step}
+use Rattle.diagram.proofs.Truth.{truth-false, truth-true, truth-step}
 use Rattle.diagram.proofs.FirstVariable.{total-nil, total-choice, total-chance, rewarded-le}
-
--- What check 18 finds of all records of a table. It holds past the last record too, where records are of zeros.
-abbrev pub Monotone : Table → Type 0
-Monotone t = (k : ℕ) → isMonotoneAt t k ≡ true
 
 -- q takes every line that p takes
 abbrev pub Under : List ℕ → List ℕ → Type 0
@@ -121,13 +118,6 @@ module _ (t : Table) (formed : Formed (length (t .variables)) (t .records)) (mon
 
 -- ---------------------------------------------------------------------------
 -- Completions
-
--- The elements of `completions`
-pub data Completes : List ℕ → List ℕ → Type 0 where
-  complete : Completes [] []
-  takes : {p c : List ℕ} → Completes p c → Completes (0 ∷ p) (1 ∷ c)
-  leaves-open : {p c : List ℕ} → Completes p c → Completes (0 ∷ p) (2 ∷ c)
-  keeps : {m : ℕ} {p c : List ℕ} → Completes p c → Completes (suc m ∷ p) (suc m ∷ c)
 
 pub all-complete : (f : List ℕ → Bool) (p : List ℕ) → ((c : List ℕ) → Completes p c → f c ≡ true) → every f (completions p) ≡ true
 unfolding completions every

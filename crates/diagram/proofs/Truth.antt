@@ -9,15 +9,7 @@ use mathlib.Core.List.{List}
 use lib.ListN.{getD}
 use Rattle.diagram.specs.Table.{Record, recordAt}
 use Rattle.diagram.specs.Score.{walk, truth}
-use Rattle.diagram.specs.Checks.{positionOf}
-
--- What check 17 finds of all records of a table of v variables: children have smaller numbers and stand at larger positions.
--- It holds past the last record too, where records are of zeros.
-pub record Formed (v : ℕ) (rs : List Record) : Type 0 where
-  pub hiLess : (k : ℕ) → recordAt rs k .hi < k + 2
-  pub loLess : (k : ℕ) → recordAt rs k .lo < k + 2
-  pub hiLater : (k : ℕ) → recordAt rs k .position < positionOf v rs (recordAt rs k .hi)
-  pub loLater : (k : ℕ) → recordAt rs k .position < positionOf v rs (recordAt rs k .lo)
+use Rattle.diagram.specs.Validity.{Formed}
 
 -- ---------------------------------------------------------------------------
 -- Fuel

@@ -6,6 +6,7 @@ pub mod Plans
 pub mod Ranking
 pub mod Visits
 pub mod Checks
+pub mod Validity
 pub mod Services
 pub mod Printout
 pub mod Starred

@@ -15,6 +15,13 @@ completions [] = [] ∷ []
 completions (zero ∷ p) = map (λ c. 1 ∷ c) (completions p) ++ map (λ c. 2 ∷ c) (completions p)
 completions (suc m ∷ p) = map (λ c. suc m ∷ c) (completions p)
 
+-- The elements of `completions`, each by its marks
+pub data Completes : List ℕ → List ℕ → Type 0 where
+  complete : Completes [] []
+  takes : {p c : List ℕ} → Completes p c → Completes (0 ∷ p) (1 ∷ c)
+  leaves-open : {p c : List ℕ} → Completes p c → Completes (0 ∷ p) (2 ∷ c)
+  keeps : {m : ℕ} {p c : List ℕ} → Completes p c → Completes (suc m ∷ p) (suc m ∷ c)
+
 -- The plan with all open lines taken
 unfoldable pub openTaken : List ℕ → List ℕ
 openTaken [] = []

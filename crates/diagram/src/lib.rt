@@ -10,6 +10,7 @@ pub use limits::MOST_BUDGET;
 pub use limits::MOST_BYTES;
 pub use limits::MOST_MORE_KITS;
 pub use limits::MOST_PARTS;
+pub use limits::MOST_PERCENT;
 pub use limits::MOST_RECORDS;
 pub use limits::MOST_REWARD;
 pub use limits::MOST_ROOTS;

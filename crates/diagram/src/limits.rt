@@ -24,5 +24,8 @@ pub const MOST_SCALE: u64 = 72057594037927936;
 // The largest reward of a root (check 26).
 pub const MOST_REWARD: u32 = 64;
 
+// The largest percentage (check 23).
+pub const MOST_PERCENT: u32 = 100;
+
 // The most kits that a request may have (check 24).
 pub const MOST_BUDGET: u32 = 10020;

@@ -1,9 +1,8 @@
 // A plan by value: a mark for each choice, with the values of the marks and the limit of their number.
-use crate::numbering::Choice;
 ghost use mathlib.Core.Path.{_≡_};
 ghost use mathlib.Core.List.{_++_};
-ghost use Prim.Native.Nat.{_-_, _<_, min};
-ghost use lib.ListN.{length, take, set, replicate};
+ghost use Prim.Native.Nat.{_-_, min};
+ghost use lib.ListN.{length, take, replicate};
 
 // The marks of the first `count` choices; the unused ones are 0.
 pub struct Plan {
@@ -61,19 +60,6 @@ impl Plan {
             i += 1;
         }
         Plan { marks, count: n }
-    }
-
-    // The plan with the mark of one choice changed. Whoever calls has a choice of a table, of which there are at most 20.
-    pub fn marked(self, choice: Choice, mark: u8) -> Plan
-        requires { ⌜ choice .0 < 20 ⌝ }
-        ensures { λ r. ⌜ r ≡ record { marks = set (self .marks) (choice .0) mark; count = self .count } ⌝ }
-    {
-        let mut marks = self.marks;
-        marks[choice.number()] = mark;
-        Plan {
-            marks,
-            count: self.count,
-        }
     }
 }
 

@@ -14,8 +14,8 @@ use borrow.Author.Tests.{eq-eqb, ne-eqb, le-leb, lt-leb}
 use Rattle.diagram.specs.Table.{Record, Table, recordAt, tableOf, variableOf, isChoice}
 use Rattle.diagram.specs.Score.{walk, truth, implies}
 use Rattle.diagram.specs.Checks.{positionOf, isMonotoneAt, monotoneFault}
+use Rattle.diagram.specs.Validity.{Formed}
 use Rattle.diagram.proofs.Places.{sequence-at, sequence-past}
-use Rattle.diagram.proofs.Truth.{Formed}
 use Rattle.diagram.proofs.Locality.{position-le, position-less}
 use Rattle.diagram.proofs.Implication.{hiOf, loOf, follow, follow-le, follow-less, follow-later, implies-split, implies-false-end}
 use Rattle.decoding.specs.declared.table.Decoded.{Decoded}

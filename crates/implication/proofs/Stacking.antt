@@ -1,4 +1,4 @@
--- The stack of pairs of nodes: how it begins, how a pair is met, how the pair on top is passed on, and what it says at the end.
+-- The stack of pairs of nodes: how it begins, how a pair is met, how the pair on top is expanded, and what it says at the end.
 -- Assumes nothing.
 use Prim.Native.Nat.{ℕ, zero, suc, _+_, _-_, _≤_, _<_, max}
 use native.Mathlib.Decide.{decLt}
@@ -18,7 +18,7 @@ use Rattle.diagram.proofs.Every.{both, and-true-both}
 use Rattle.diagram.proofs.Implication.{implies-false-end, implies-true-end, implies-same, implies-ends}
 use Rattle.decoding.specs.declared.table.Decoded.{Decoded}
 use Rattle.decoding.specs.Decoding.{tableIn}
-use Rattle.implication.specs.Nodes.{recordsOf, endOf, Checkable, askedNode, Pairs, next, smaller, cell, AtOnce, zeros, Met, Room, pushed, PassedOn, Waits, Stack}
+use Rattle.implication.specs.Nodes.{recordsOf, endOf, Checkable, askedNode, Pairs, next, smaller, cell, AtOnce, zeros, Met, Room, pushed, Expanded, Waits, Stack}
 use Rattle.implication.proofs.Cells.{cell-le, origin-cell, only-known, zeros-marked}
 use Rattle.implication.proofs.Pairing.{Meets, next-le, next-less, next-later, next-split, position-few, held-asked}
 
@@ -127,7 +127,7 @@ module _ {ps hs ls met firsts seconds met′ firsts′ seconds′ : List ℕ} {c
       let f : cell met m n < 1 = omega arith in
       rw (e, first-new f, second-new f) (new f))
 
-  carried : (a b : ℕ) → AtOnce a b ⊎ (PassedOn ps hs ls met a b ⊎ (Waits firsts seconds depth a b ⊎ ((a ≡ x) × (b ≡ y)))) → AtOnce a b ⊎ (PassedOn ps hs ls met′ a b ⊎ (Waits firsts′ seconds′ depth′ a b ⊎ ((a ≡ x) × (b ≡ y))))
+  carried : (a b : ℕ) → AtOnce a b ⊎ (Expanded ps hs ls met a b ⊎ (Waits firsts seconds depth a b ⊎ ((a ≡ x) × (b ≡ y)))) → AtOnce a b ⊎ (Expanded ps hs ls met′ a b ⊎ (Waits firsts′ seconds′ depth′ a b ⊎ ((a ≡ x) × (b ≡ y))))
   carried a b (inl e) = inl e
   carried a b (inr (inl e)) = inr (inl (record { high = kept _ _ (e .high); low = kept _ _ (e .low) }))
   carried a b (inr (inr (inl e))) =
@@ -192,7 +192,7 @@ module _ {ps hs ls met firsts seconds met′ firsts′ seconds′ : List ℕ} {c
         }
 
 -- ---------------------------------------------------------------------------
--- A pair is passed on
+-- A pair is expanded
 
 module _ {ps hs ls : List ℕ} (pairs : Pairs ps hs ls) where
   end-position : (n : ℕ) → n < 2 → getD ps n 0 ≡ endOf ps
@@ -277,7 +277,7 @@ module _ {ps hs ls met firsts seconds : List ℕ} {a b top m n : ℕ} (h : Stack
         right = h .right;
       }
     where
-      off : (p q : ℕ) → AtOnce p q ⊎ (PassedOn ps hs ls met p q ⊎ (Waits firsts seconds (suc top) p q ⊎ ((p ≡ 0) × (q ≡ 0)))) → AtOnce p q ⊎ (PassedOn ps hs ls met p q ⊎ (Waits firsts seconds top p q ⊎ ((p ≡ m) × (q ≡ n))))
+      off : (p q : ℕ) → AtOnce p q ⊎ (Expanded ps hs ls met p q ⊎ (Waits firsts seconds (suc top) p q ⊎ ((p ≡ 0) × (q ≡ 0)))) → AtOnce p q ⊎ (Expanded ps hs ls met p q ⊎ (Waits firsts seconds top p q ⊎ ((p ≡ m) × (q ≡ n))))
       off p q (inl e) = inl e
       off p q (inr (inl e)) = inr (inl e)
       off p q (inr (inr (inl w))) = inr (inr (by-cases (decLt (w .slot) top)
@@ -288,9 +288,9 @@ module _ {ps hs ls met firsts seconds : List ℕ} {a b top m n : ℕ} (h : Stack
           inr (sym (w .first) ∙ rw e (sym first), sym (w .second) ∙ rw e (sym second)))))
       off p q (inr (inr (inr e))) = inl (inl (e .0))
 
--- a pair that was taken off is passed on where both pairs that it leads to have been met
-passed : {ps hs ls met firsts seconds : List ℕ} {a b m n depth : ℕ} → Stack ps hs ls met firsts seconds a b m n depth → PassedOn ps hs ls met m n → Stack ps hs ls met firsts seconds a b 0 0 depth
-passed {ps} {hs} {ls} {met} {firsts} {seconds} {m} {n} {depth} h on =
+-- a pair that was taken off is expanded where both pairs that it leads to have been met
+expanded : {ps hs ls met firsts seconds : List ℕ} {a b m n depth : ℕ} → Stack ps hs ls met firsts seconds a b m n depth → Expanded ps hs ls met m n → Stack ps hs ls met firsts seconds a b 0 0 depth
+expanded {ps} {hs} {ls} {met} {firsts} {seconds} {m} {n} {depth} h on =
     record {
       pairs = h .pairs;
       room = h .room;
@@ -303,37 +303,37 @@ passed {ps} {hs} {ls} {met} {firsts} {seconds} {m} {n} {depth} h on =
       right = h .right;
     }
   where
-    past : (p q : ℕ) → AtOnce p q ⊎ (PassedOn ps hs ls met p q ⊎ (Waits firsts seconds depth p q ⊎ ((p ≡ m) × (q ≡ n)))) → AtOnce p q ⊎ (PassedOn ps hs ls met p q ⊎ (Waits firsts seconds depth p q ⊎ ((p ≡ 0) × (q ≡ 0))))
+    past : (p q : ℕ) → AtOnce p q ⊎ (Expanded ps hs ls met p q ⊎ (Waits firsts seconds depth p q ⊎ ((p ≡ m) × (q ≡ n)))) → AtOnce p q ⊎ (Expanded ps hs ls met p q ⊎ (Waits firsts seconds depth p q ⊎ ((p ≡ 0) × (q ≡ 0))))
     past p q (inl e) = inl e
     past p q (inr (inl e)) = inr (inl e)
     past p q (inr (inr (inl w))) = inr (inr (inl w))
     past p q (inr (inr (inr (i, j)))) = inr (inl (rw (i, j) on))
 
--- the pair on top is passed on: first the pair that it leads to by high children is met, then the one by low children
+-- the pair on top is expanded: first the pair that it leads to by high children is met, then the one by low children
 module _ {ps hs ls met firsts seconds met₁ firsts₁ seconds₁ : List ℕ} {a b top depth₁ m n high-m high-n : ℕ} (h : Stack ps hs ls met firsts seconds a b 0 0 (suc top)) (first : m ≡ getD firsts top 0) (second : n ≡ getD seconds top 0) (hm : high-m ≡ next ps hs m n) (hn : high-n ≡ next ps hs n m) (g : Meeting met firsts seconds top high-m high-n met₁ firsts₁ seconds₁ depth₁) where
   off-top : Stack ps hs ls met firsts seconds a b m n top
   off-top = take h first second
 
-  pub pass-high : Stack ps hs ls met₁ firsts₁ seconds₁ a b m n depth₁
-  pass-high =
+  pub expand-high : Stack ps hs ls met₁ firsts₁ seconds₁ a b m n depth₁
+  expand-high =
       meet off-top g
       (λ new. omega (arith, top-late h first second, new-later (h .pairs) m n (m-within h first second) (n-within h first second) met true (h .origin) hm hn new))
       a b (kept off-top g a b (h .asked)) (λ t. (t, rw (hm, hn) (sound h first second t .0)))
 
   module _ {met₂ firsts₂ seconds₂ : List ℕ} {depth₂ low-m low-n : ℕ} (lm : low-m ≡ next ps ls m n) (ln : low-n ≡ next ps ls n m) (g₂ : Meeting met₁ firsts₁ seconds₁ depth₁ low-m low-n met₂ firsts₂ seconds₂ depth₂) where
-    pub pass : Stack ps hs ls met₂ firsts₂ seconds₂ a b 0 0 depth₂
-    pass =
+    pub expand-both : Stack ps hs ls met₂ firsts₂ seconds₂ a b 0 0 depth₂
+    expand-both =
         let end = g .end in
-        let q = meet pass-high g₂
-        (λ new. omega (arith, top-late h first second, new-later (h .pairs) m n (m-within h first second) (n-within h first second) met₁ false (pass-high .origin) lm ln new))
-        a b (kept pass-high g₂ a b (pass-high .asked)) (λ t. (t, rw (lm, ln) (sound h first second t .1))) in
-        passed q (record {
-          high = rw (← hm, ← hn) (kept pass-high g₂ _ _ (here off-top g));
-          low = rw (← lm, ← ln) (here pass-high g₂);
+        let q = meet expand-high g₂
+        (λ new. omega (arith, top-late h first second, new-later (h .pairs) m n (m-within h first second) (n-within h first second) met₁ false (expand-high .origin) lm ln new))
+        a b (kept expand-high g₂ a b (expand-high .asked)) (λ t. (t, rw (lm, ln) (sound h first second t .1))) in
+        expanded q (record {
+          high = rw (← hm, ← hn) (kept expand-high g₂ _ _ (here off-top g));
+          low = rw (← lm, ← ln) (here expand-high g₂);
         })
 
-    pub pass-left : zeros met₂ + depth₂ ≡ zeros met + top
-    pass-left = met-left pass-high g₂ ∙ met-left off-top g
+    pub expand-left : zeros met₂ + depth₂ ≡ zeros met + top
+    expand-left = met-left expand-high g₂ ∙ met-left off-top g
 
 -- ---------------------------------------------------------------------------
 -- The end
@@ -353,7 +353,7 @@ module _ {ps hs ls met firsts seconds : List ℕ} {a b : ℕ} (h : Stack ps hs l
     ends-imply (suc (suc m)) n l k e = absurd (omega arith)
 
     -- a pair met implies where all pairs met of a smaller sum do
-    by-smaller : (m n : ℕ) → m < 256 → n < 256 → cell met m n ≡ 1 → ((p q : ℕ) → p + q < m + n → p < 256 → q < 256 → cell met p q ≡ 1 → implies (endOf ps) (recordsOf ps hs ls) p q ≡ true) → AtOnce m n ⊎ (PassedOn ps hs ls met m n ⊎ (Waits firsts seconds 0 m n ⊎ ((m ≡ 0) × (n ≡ 0)))) → implies (endOf ps) (recordsOf ps hs ls) m n ≡ true
+    by-smaller : (m n : ℕ) → m < 256 → n < 256 → cell met m n ≡ 1 → ((p q : ℕ) → p + q < m + n → p < 256 → q < 256 → cell met p q ≡ 1 → implies (endOf ps) (recordsOf ps hs ls) p q ≡ true) → AtOnce m n ⊎ (Expanded ps hs ls met m n ⊎ (Waits firsts seconds 0 m n ⊎ ((m ≡ 0) × (n ≡ 0)))) → implies (endOf ps) (recordsOf ps hs ls) m n ≡ true
     by-smaller m n lm ln e smaller (inl k) = at-once _ _ m n k
     by-smaller m n lm ln e smaller (inr (inl k)) =
         by-cases (decLt (max m n) 2)
@@ -397,12 +397,12 @@ ask {m} {n} h g = meet h g (λ _. omega arith) m n (here h g) (λ t. (implies-fa
 
 -- what passing on all pairs that record k leads to gives: the pair of true and false is met where the record is not monotone, and
 -- else all pairs met imply
-pub record Explored (d : Decoded) (met firsts seconds : List ℕ) (k : ℕ) : Type 0 where
+pub record Drained (d : Decoded) (met firsts seconds : List ℕ) (k : ℕ) : Type 0 where
   pub fault : cell met 1 0 ≡ 1 → false ≡ isMonotoneAt (tableIn d) k
   pub passes : (cell met 1 0 ≡ 1 → ⊥) → (true ≡ isMonotoneAt (tableIn d) k) × Stack (d .positions) (d .high) (d .low) met firsts seconds 0 0 0 0 0
 
-pub explored : {d : Decoded} → Checkable d → {k lo hi : ℕ} {met firsts seconds : List ℕ} → k < d .records → lo ≡ askedNode (d .words) (d .positions) (d .low) k → hi ≡ askedNode (d .words) (d .positions) (d .high) k → lo < 256 → hi < 256 → Stack (d .positions) (d .high) (d .low) met firsts seconds lo hi 0 0 0 → Explored d met firsts seconds k
-explored held {k} l elo ehi small small′ h =
+pub drained : {d : Decoded} → Checkable d → {k lo hi : ℕ} {met firsts seconds : List ℕ} → k < d .records → lo ≡ askedNode (d .words) (d .positions) (d .low) k → hi ≡ askedNode (d .words) (d .positions) (d .high) k → lo < 256 → hi < 256 → Stack (d .positions) (d .high) (d .low) met firsts seconds lo hi 0 0 0 → Drained d met firsts seconds k
+drained held {k} l elo ehi small small′ h =
     record {
       fault = λ e. held-asked held k l elo ehi (sym (refuted h e));
       passes = λ e. (held-asked held k l elo ehi (sym (all-imply h e _ _ small small′ (h .asked))), idle h e);

@@ -1,4 +1,4 @@
--- Check 18 of a decoded table: the pairs of nodes that are met, and the stack of those to be passed on.
+-- Check 18 of a decoded table: the pairs of nodes that are met, and the stack of those to be expanded.
 use Prim.Native.Nat.{ℕ, zero, suc, _+_, _-_, _*_, _/_, _%_, _^_, _≤_, _<_, min}
 use mathlib.Core.Path.{_≡_}
 use mathlib.Core.Bool.{Bool, true, cond, not}
@@ -10,7 +10,7 @@ use lib.Dec.{eqb, leb}
 use Rattle.diagram.specs.Table.{Record, Table, sequence, variableOf, isChoice}
 use Rattle.diagram.specs.Score.{implies}
 use Rattle.diagram.specs.Checks.{firstPlace, isMonotoneAt}
-use Rattle.diagram.proofs.Truth.{Formed}
+use Rattle.diagram.specs.Validity.{Formed}
 use Rattle.decoding.specs.declared.table.Decoded.{Decoded}
 use Rattle.decoding.specs.Decoding.{tableIn, Held}
 
@@ -105,7 +105,7 @@ pushed zero xs depth x = set xs depth x
 pushed (suc _) xs depth x = xs
 
 -- Both pairs that m, n leads to have been met
-pub record PassedOn (ps hs ls met : List ℕ) (m n : ℕ) : Type 0 where
+pub record Expanded (ps hs ls met : List ℕ) (m n : ℕ) : Type 0 where
   pub high : cell met (next ps hs m n) (next ps hs n m) ≡ 1
   pub low : cell met (next ps ls m n) (next ps ls n m) ≡ 1
 
@@ -116,7 +116,7 @@ pub record Waits (firsts seconds : List ℕ) (depth m n : ℕ) : Type 0 where
   pub first : getD firsts slot 0 ≡ m
   pub second : getD seconds slot 0 ≡ n
 
--- The stack of the pairs met: those on it are still to be passed on, as is the pair m, n that has been taken off last (0, 0 where
+-- The stack of the pairs met: those on it are still to be expanded, as is the pair m, n that has been taken off last (0, 0 where
 -- there is none), a pair with j others under it stands at position j - 1 or later, and all pairs met imply if the pair a, b does
 pub record Stack (ps hs ls met firsts seconds : List ℕ) (a b m n depth : ℕ) : Type 0 where
   pub pairs : Pairs ps hs ls
@@ -126,5 +126,5 @@ pub record Stack (ps hs ls met firsts seconds : List ℕ) (a b m n depth : ℕ) 
   pub small : (j : ℕ) → j < depth → (getD firsts j 0 < 256) × (getD seconds j 0 < 256)
   pub waiting : (j : ℕ) → j < depth → cell met (getD firsts j 0) (getD seconds j 0) ≡ 1
   pub deep : (j : ℕ) → j < depth → j ≤ smaller ps (getD firsts j 0) (getD seconds j 0) + 1
-  pub traced : (p q : ℕ) → p < 256 → q < 256 → cell met p q ≡ 1 → AtOnce p q ⊎ (PassedOn ps hs ls met p q ⊎ (Waits firsts seconds depth p q ⊎ ((p ≡ m) × (q ≡ n))))
+  pub traced : (p q : ℕ) → p < 256 → q < 256 → cell met p q ≡ 1 → AtOnce p q ⊎ (Expanded ps hs ls met p q ⊎ (Waits firsts seconds depth p q ⊎ ((p ≡ m) × (q ≡ n))))
   pub right : implies (endOf ps) (recordsOf ps hs ls) a b ≡ true → (p q : ℕ) → p < 256 → q < 256 → cell met p q ≡ 1 → implies (endOf ps) (recordsOf ps hs ls) p q ≡ true

@@ -47,7 +47,7 @@ fn first_fault(
         let low = asked_node(&t.words, &t.positions, &t.low, k);
         let high = asked_node(&t.words, &t.positions, &t.high, k);
         let depth = meet(met, firsts, seconds, 0, low, high);
-        explore(met, firsts, seconds, &t.positions, &t.high, &t.low, depth);
+        drain(met, firsts, seconds, &t.positions, &t.high, &t.low, depth);
         if is_met(met, Node::new(1), Node::new(0)) {
             return Fault::At(end.word() + k);
         }
@@ -75,8 +75,8 @@ fn asked_node<'a>(
     Node::new(0)
 }
 
-// Passes on every pair of the stack, and those that are met on the way, until the stack is empty.
-fn explore<'a>(
+// Expands every pair of the stack, and those that are met on the way, until the stack is empty.
+fn drain<'a>(
     met: &mut [u64; 1024],
     firsts: &mut [u8; 128],
     seconds: &mut [u8; 128],
@@ -91,12 +91,12 @@ fn explore<'a>(
     let mut depth = start;
     while depth > 0 {
         let top = depth - 1;
-        depth = pass_on(met, firsts, seconds, positions, high, low, top);
+        depth = expand(met, firsts, seconds, positions, high, low, top);
     }
 }
 
 // Takes the pair at top off and meets the two pairs that it leads to. Answers the new depth.
-fn pass_on(
+fn expand(
     met: &mut [u64; 1024],
     firsts: &mut [u8; 128],
     seconds: &mut [u8; 128],

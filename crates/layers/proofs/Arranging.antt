@@ -10,8 +10,8 @@ use lib.Dec.{eqb}
 use borrow.Author.Tests.{eqb-true, eq-eqb}
 use Rattle.diagram.specs.Table.{Table, sequence, recordAt, isChoice, choiceCount}
 use Rattle.diagram.specs.Plans.{openTaken, isOpen}
+use Rattle.diagram.specs.Validity.{Monotone}
 use Rattle.diagram.proofs.Every.{and-true-both}
-use Rattle.diagram.proofs.Rising.{Monotone}
 use Rattle.scoring.specs.declared.roots.Roots.{Roots}
 use Rattle.scoring.specs.Value.{place, value, gap, variableAt, markAt, lowArc}
 use Rattle.scoring.specs.Passes.{over, markOf, highInForce, markAtNode, RootsHeld, Marked}

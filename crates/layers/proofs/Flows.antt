@@ -25,7 +25,7 @@ use Rattle.sweep.specs.Drops.{isOf, valueLoss}
 use Rattle.sweep.proofs.Leaving.{openTaken-set, open-taken, within-plan, choices-later, weights-taken, weights-left, weights-same, mark-number}
 use Rattle.sweep.proofs.Deriving.{is-false, open-within, open-zero}
 use Rattle.layers.specs.Weights.{pathWeight, weightSum}
-use Rattle.layers.specs.Layers.{Layers, inflow, put, passNode, passNodes, ownNode, ownNodes, dropSum, leaveNode, leaveNodes, Enterable}
+use Rattle.layers.specs.Layers.{Layers, inflow, put, crossNode, crossNodes, ownNode, ownNodes, dropSum, leaveNode, leaveNodes, Enterable}
 use Rattle.layers.specs.Flows.{lowKept, highAt, lowAt, Layered, rankSum, atSum, Line, Settles, Right, Same}
 use Rattle.layers.proofs.Weights.{weight-step, weight-local, weight-fits, drop-weights}
 
@@ -282,11 +282,11 @@ module _ {t : Table} {s order : List ℕ} {l : Layers} {losses : List ℕ} (laye
 
   -- the cells once the layer is entered
   abbrev entered : List ℕ
-  entered = ownNodes l own (to - own) (passNodes l from (own - from) cells)
+  entered = ownNodes l own (to - own) (crossNodes l from (own - from) cells)
 
   -- the cells once the nodes before the line's own have handed on
   abbrev base : List ℕ
-  base = passNodes l from (own - from) cells
+  base = crossNodes l from (own - from) cells
 
   -- the line is open from the start
   open-start : isOpen s d ≡ true
@@ -317,11 +317,11 @@ module _ {t : Table} {s order : List ℕ} {l : Layers} {losses : List ℕ} (laye
         weights-left t (openTaken (set p d 2)) k own-choice (rw (mark-number t (openTaken (set p d 2)) k, own-number, openTaken-set p d, mark) refl)
 
   -- the nodes before the line's own hand on their path weights
-  passed : (n : ℕ) → from + n ≤ own → Walked layered (openTaken p) from n cells (passNodes l from n cells)
-  unfolding passNodes passNode
-  passed zero h = walked-start layered (openTaken p) long right
-  passed (suc n) h =
-      let w = passed n (omega arith) in
+  crossed : (n : ℕ) → from + n ≤ own → Walked layered (openTaken p) from n cells (crossNodes l from n cells)
+  unfolding crossNodes crossNode
+  crossed zero h = walked-start layered (openTaken p) long right
+  crossed (suc n) h =
+      let w = crossed n (omega arith) in
       let less : from + n < length (t .records) = omega (arith, line .bounds) in
       let come = walked-inflow layered (openTaken p) rooted less w in
       walked-next layered (openTaken p) rooted less w _
@@ -331,7 +331,7 @@ module _ {t : Table} {s order : List ℕ} {l : Layers} {losses : List ℕ} (laye
       (q .0, rw (come, e, q .1) refl))
 
   base-walked : Walked layered (openTaken p) from (own - from) cells base
-  base-walked = passed (own - from) (omega (arith, line .bounds))
+  base-walked = crossed (own - from) (omega (arith, line .bounds))
 
   base-rooted : getD base 1 0 ≡ 1
   base-rooted = base-walked .wrote .root ∙ rooted
@@ -444,13 +444,13 @@ module _ {t : Table} {s order : List ℕ} {l : Layers} {losses : List ℕ} (laye
         sized = layered .sized;
         bounds = line .bounds;
         long = long;
-        passes = λ i h. rw (walked-inflow layered (openTaken p) rooted (omega (arith, line .bounds)) (passed i (omega arith))) (fits _);
+        crosses = λ i h. rw (walked-inflow layered (openTaken p) rooted (omega (arith, line .bounds)) (crossed i (omega arith))) (fits _);
         enters = λ i h. rw (walked-inflow layered (openTaken p) base-rooted (omega (arith, line .bounds)) (owned i (omega arith))) (fits _);
         drops = rw drop-sum drop-fits;
       }
 
   -- what leaving the line loses is its drop
-  pub entered-drop : dropSum l losses own (to - own) (passNodes l from (own - from) cells) ≡ derivative t p d
+  pub entered-drop : dropSum l losses own (to - own) (crossNodes l from (own - from) cells) ≡ derivative t p d
   entered-drop = drop-sum
 
   -- the cells are right up to the end of the layer, and before the layer as they were

@@ -10,7 +10,7 @@ use mathlib.Core.List.{List, _++_}
 use lib.ListN.{length, getD, replicate}
 use Rattle.diagram.specs.Table.{Table, Record, sequence, recordAt}
 use Rattle.diagram.specs.Checks.{positionOf}
-use Rattle.diagram.proofs.Truth.{Formed}
+use Rattle.diagram.specs.Validity.{Formed}
 use Rattle.diagram.proofs.Locality.{position-less}
 use Rattle.decoding.specs.Nodes.{column}
 use Rattle.decoding.proofs.Columns.{column-at}

@@ -7,7 +7,7 @@ use mathlib.Core.Path.{_≡_, refl, _∙_}
 use mathlib.Core.Logic.{⊎-elim}
 use mathlib.Core.List.{List}
 use lib.ListN.{length, getD, length-set}
-use Rattle.layers.specs.Layers.{Layers, Sized, flowSum, inflow, put, passNode, passNodes, PassFits, ownNode, ownNodes, OwnFits, dropSum, leaveNode, leaveNodes}
+use Rattle.layers.specs.Layers.{Layers, Sized, flowSum, inflow, put, crossNode, crossNodes, CrossFits, ownNode, ownNodes, OwnFits, dropSum, leaveNode, leaveNodes}
 
 -- ---------------------------------------------------------------------------
 -- What arcs bring
@@ -70,24 +70,24 @@ module _ (l : Layers) {n i at end : ℕ} (cells : List ℕ) (sized : Sized l n) 
 -- Nodes that hand on by both arcs
 
 module _ (l : Layers) (from : ℕ) (cells₀ : List ℕ) where
-  pub pass-none : cells₀ ≡ passNodes l from (from - from) cells₀
-  unfolding passNodes
-  pass-none = rw (sub-self from) refl
+  pub cross-none : cells₀ ≡ crossNodes l from (from - from) cells₀
+  unfolding crossNodes
+  cross-none = rw (sub-self from) refl
 
-  pub pass-next : {i w : ℕ} {cells cells′ : List ℕ} → from ≤ i → cells ≡ passNodes l from (i - from) cells₀ → w ≡ inflow l cells i → cells′ ≡ put cells i w w → cells′ ≡ passNodes l from (i + 1 - from) cells₀
-  unfolding passNodes passNode
-  pass-next {i} h e ew e′ =
+  pub cross-next : {i w : ℕ} {cells cells′ : List ℕ} → from ≤ i → cells ≡ crossNodes l from (i - from) cells₀ → w ≡ inflow l cells i → cells′ ≡ put cells i w w → cells′ ≡ crossNodes l from (i + 1 - from) cells₀
+  unfolding crossNodes crossNode
+  cross-next {i} h e ew e′ =
       let one : i + 1 - from ≡ suc (i - from) = omega arith in
       let here : from + (i - from) ≡ i = omega arith in
       rw (one, here, ← e, ← ew) e′
 
-  pub pass-fits : {i to : ℕ} {cells : List ℕ} → from ≤ i → i < to → PassFits l from to cells₀ → cells ≡ passNodes l from (i - from) cells₀ → inflow l cells i ≤ 2 ^ 56
-  pass-fits {i} h less fits e =
+  pub cross-fits : {i to : ℕ} {cells : List ℕ} → from ≤ i → i < to → CrossFits l from to cells₀ → cells ≡ crossNodes l from (i - from) cells₀ → inflow l cells i ≤ 2 ^ 56
+  cross-fits {i} h less fits e =
       let here : from + (i - from) ≡ i = omega arith in
       rw e (rw here at (fits (i - from) (omega arith)))
 
-  pub pass-all : {i to : ℕ} {cells : List ℕ} → i ≤ to → to ≤ i → cells ≡ passNodes l from (i - from) cells₀ → cells ≡ passNodes l from (to - from) cells₀
-  pass-all {i} {to} h k e =
+  pub cross-all : {i to : ℕ} {cells : List ℕ} → i ≤ to → to ≤ i → cells ≡ crossNodes l from (i - from) cells₀ → cells ≡ crossNodes l from (to - from) cells₀
+  cross-all {i} {to} h k e =
       let end : i ≡ to = omega arith in
       e ∙ rw end refl
 
@@ -174,7 +174,7 @@ module _ (from : ℕ) (cells₀ : List ℕ) where
 pub put-length : (cells : List ℕ) (i x y : ℕ) → length (put cells i x y) ≡ length cells
 put-length cells i x y = simp length-set
 
-pub passed-length : (l : Layers) (i n : ℕ) (cells : List ℕ) → length (passNodes l i n cells) ≡ length cells
-unfolding passNodes passNode
-passed-length l i zero cells = refl
-passed-length l i (suc n) cells = simp length-set (passed-length l i n cells)
+pub crossed-length : (l : Layers) (i n : ℕ) (cells : List ℕ) → length (crossNodes l i n cells) ≡ length cells
+unfolding crossNodes crossNode
+crossed-length l i zero cells = refl
+crossed-length l i (suc n) cells = simp length-set (crossed-length l i n cells)

@@ -17,10 +17,9 @@ use Rattle.diagram.specs.Table.{Table, recordAt, scaleOf, scale}
 use Rattle.diagram.specs.Score.{score}
 use Rattle.diagram.specs.Plans.{openTaken, isOpen, upperBound, derivative}
 use Rattle.diagram.specs.Checks.{positionOf}
-use Rattle.diagram.proofs.Truth.{Formed}
+use Rattle.diagram.specs.Validity.{Formed, BoundedShares, Monotone}
 use Rattle.diagram.proofs.Places.{sequence-at}
-use Rattle.diagram.proofs.FirstVariable.{Shares, scale-positive}
-use Rattle.diagram.proofs.Rising.{Monotone}
+use Rattle.diagram.proofs.FirstVariable.{scale-positive}
 use Rattle.decoding.specs.Decoding.{rootAt}
 use Rattle.scoring.specs.Value.{place, value, rootedSum, highWeight, lowWeight}
 use Rattle.scoring.specs.Passes.{byNode, Arcs}
@@ -114,7 +113,7 @@ pass-fits {a} (suc k) ws b size i h =
 -- ---------------------------------------------------------------------------
 -- The weights of a table
 
-module _ (t : Table) (formed : Formed (length (t .variables)) (t .records)) (shares : Shares (t .variables)) (few : length (t .records) ≤ 254) (rooted : Rooted t) where
+module _ (t : Table) (formed : Formed (length (t .variables)) (t .records)) (shares : BoundedShares (t .variables)) (few : length (t .records) ≤ 254) (rooted : Rooted t) where
   -- the weights to begin with
   abbrev first : List ℕ
   first = rootWeights t (length (t .roots)) (replicate 256 0)

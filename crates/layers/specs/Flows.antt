@@ -8,9 +8,7 @@ use lib.Dec.{eqb}
 use Rattle.diagram.specs.Table.{Table, chance, recordAt, isChoice, choiceCount, scaleOf, scale}
 use Rattle.diagram.specs.Plans.{openTaken, isOpen}
 use Rattle.diagram.specs.Visits.{lowestOpen}
-use Rattle.diagram.proofs.Truth.{Formed}
-use Rattle.diagram.proofs.FirstVariable.{Shares}
-use Rattle.diagram.proofs.Rising.{Monotone}
+use Rattle.diagram.specs.Validity.{Formed, BoundedShares, Monotone}
 use Rattle.scoring.specs.Value.{place, value, variableAt, highWeight, lowWeight, highArc, lowArc}
 use Rattle.scoring.specs.Passes.{markOf, highInForce}
 use Rattle.sweep.specs.Down.{rootWeight}
@@ -47,7 +45,7 @@ pub record Stand (t : Table) (i x : ℕ) : Type 0 where
 -- is what its value falls by.
 pub record Layered (t : Table) (s order : List ℕ) (l : Layers) (losses : List ℕ) : Type 0 where
   pub formed : Formed (length (t .variables)) (t .records)
-  pub shares : Shares (t .variables)
+  pub shares : BoundedShares (t .variables)
   pub monotone : Monotone t
   pub bounded : scaleOf (t .variables) ≤ 2 ^ 56
   pub scaled : scale t ≤ 2 ^ 56

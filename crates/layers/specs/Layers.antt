@@ -46,13 +46,13 @@ abbrev pub put : (cells : List ℕ) → (i x y : ℕ) → List ℕ
 put cells i x y = set (set cells (highCell i) x) (lowCell i) y
 
 -- The node at rank i hands on what comes to it, by both arcs
-unfoldable pub passNode : Layers → (i : ℕ) → (cells : List ℕ) → List ℕ
-passNode l i cells = put cells i (inflow l cells i) (inflow l cells i)
+unfoldable pub crossNode : Layers → (i : ℕ) → (cells : List ℕ) → List ℕ
+crossNode l i cells = put cells i (inflow l cells i) (inflow l cells i)
 
 -- n nodes from rank i on, one after the other
-unfoldable pub passNodes : Layers → (i n : ℕ) → (cells : List ℕ) → List ℕ
-passNodes l i zero cells = cells
-passNodes l i (suc n) cells = passNode l (i + n) (passNodes l i n cells)
+unfoldable pub crossNodes : Layers → (i n : ℕ) → (cells : List ℕ) → List ℕ
+crossNodes l i zero cells = cells
+crossNodes l i (suc n) cells = crossNode l (i + n) (crossNodes l i n cells)
 
 -- The node at rank i, of a line taken, hands on what comes to it by its hi arc alone
 unfoldable pub ownNode : Layers → (i : ℕ) → (cells : List ℕ) → List ℕ
@@ -63,17 +63,17 @@ ownNodes l i zero cells = cells
 ownNodes l i (suc n) cells = ownNode l (i + n) (ownNodes l i n cells)
 
 -- What comes to each node from one rank to another fits, where these nodes hand on by both arcs
-abbrev pub PassFits : Layers → (from to : ℕ) → (cells : List ℕ) → Type 0
-PassFits l from to cells = (i : ℕ) → from + i < to → inflow l (passNodes l from i cells) (from + i) ≤ 2 ^ 56
+abbrev pub CrossFits : Layers → (from to : ℕ) → (cells : List ℕ) → Type 0
+CrossFits l from to cells = (i : ℕ) → from + i < to → inflow l (crossNodes l from i cells) (from + i) ≤ 2 ^ 56
 
 -- and where they are of a line taken
 abbrev pub OwnFits : Layers → (from to : ℕ) → (cells : List ℕ) → Type 0
 OwnFits l from to cells = (i : ℕ) → from + i < to → inflow l (ownNodes l from i cells) (from + i) ≤ 2 ^ 56
 
--- The nodes from one rank to another may be passed
-abbrev pub Passable : Layers → (from to : ℕ) → (cells : List ℕ) → Type 0
-Passable l from to cells =
-    (from ≤ to) × (length cells ≡ 512) × ((n : ℕ) × Sized l n × (to ≤ n) × PassFits l from to cells)
+-- The nodes from one rank to another may be crossed
+abbrev pub Crossable : Layers → (from to : ℕ) → (cells : List ℕ) → Type 0
+Crossable l from to cells =
+    (from ≤ to) × (length cells ≡ 512) × ((n : ℕ) × Sized l n × (to ≤ n) × CrossFits l from to cells)
 
 -- What leaving the line of n nodes from rank i on loses: at each node what comes to it, times its loss
 unfoldable pub dropSum : Layers → (losses : List ℕ) → (i n : ℕ) → (cells : List ℕ) → ℕ
@@ -97,18 +97,18 @@ leaveNodes i zero cells = cells
 leaveNodes i (suc n) cells = leaveNode (i + n) (leaveNodes i n cells)
 
 -- The cells after the layer of the lowest of so many unsettled lines, up to the line's own nodes
-abbrev pub layerPassed : Layers → (lines : List ℕ) → (unsettled : ℕ) → (cells : List ℕ) → List ℕ
-layerPassed l lines n cells = passNodes l (firstRank lines n) (ownRank lines n - firstRank lines n) cells
+abbrev pub layerCrossed : Layers → (lines : List ℕ) → (unsettled : ℕ) → (cells : List ℕ) → List ℕ
+layerCrossed l lines n cells = crossNodes l (firstRank lines n) (ownRank lines n - firstRank lines n) cells
 
 -- The cells after the whole layer, with the line taken
 abbrev pub layerEntered : Layers → (lines : List ℕ) → (unsettled : ℕ) → (cells : List ℕ) → List ℕ
 layerEntered l lines n cells =
-    ownNodes l (ownRank lines n) (nextRank lines n - ownRank lines n) (layerPassed l lines n cells)
+    ownNodes l (ownRank lines n) (nextRank lines n - ownRank lines n) (layerCrossed l lines n cells)
 
 -- What leaving the line loses
 abbrev pub layerDrop : Layers → (losses lines : List ℕ) → (unsettled : ℕ) → (cells : List ℕ) → ℕ
 layerDrop l losses lines n cells =
-    dropSum l losses (ownRank lines n) (nextRank lines n - ownRank lines n) (layerPassed l lines n cells)
+    dropSum l losses (ownRank lines n) (nextRank lines n - ownRank lines n) (layerCrossed l lines n cells)
 
 -- The cells once the line is left
 abbrev pub lineLeft : (lines : List ℕ) → (unsettled : ℕ) → (cells : List ℕ) → List ℕ
@@ -119,9 +119,9 @@ pub record Enterable (l : Layers) (losses : List ℕ) (n from own to : ℕ) (cel
   pub sized : Sized l n
   pub bounds : (from ≤ own) × (own ≤ to) × (to ≤ n)
   pub long : length cells ≡ 512
-  pub passes : PassFits l from own cells
-  pub enters : OwnFits l own to (passNodes l from (own - from) cells)
-  pub drops : dropSum l losses own (to - own) (passNodes l from (own - from) cells) ≤ 2 ^ 56
+  pub crosses : CrossFits l from own cells
+  pub enters : OwnFits l own to (crossNodes l from (own - from) cells)
+  pub drops : dropSum l losses own (to - own) (crossNodes l from (own - from) cells) ≤ 2 ^ 56
 
 -- The layer of the lowest of so many unsettled lines, at most 20, may be entered
 abbrev pub LayerEnterable : Layers → (losses lines : List ℕ) → (unsettled : ℕ) → (cells : List ℕ) → Type 0

@@ -5,7 +5,7 @@ use crate::lines::OWN;
 ghost use mathlib.Core.Path.{_≡_};
 ghost use Prim.Native.Nat.{ℕ, _+_, _-_, _≤_, _<_, _^_};
 ghost use lib.ListN.{length, getD};
-ghost use Rattle.layers.specs.Layers.{layersOf, flowSum, FlowFits, put, passNodes, Passable, ownNodes, dropSum, OwnEnterable, layerEntered, layerDrop, lineLeft, LayerEnterable, LineLeavable};
+ghost use Rattle.layers.specs.Layers.{layersOf, flowSum, FlowFits, put, crossNodes, Crossable, ownNodes, dropSum, OwnEnterable, layerEntered, layerDrop, lineLeft, LayerEnterable, LineLeavable};
 
 // Enters the layer of the lowest of `unsettled` open lines, whose ranks `lines` has: the nodes before the line hand their weights on
 // by both arcs, the line's own by their hi arcs, as if it were taken. Answers what leaving the line loses. The arrays
@@ -26,12 +26,12 @@ pub fn enter_layer(
     let first = lines[unsettled] as usize;
     let own = lines[unsettled + OWN] as usize;
     let next = lines[unsettled - 1] as usize;
-    pass(starts, sources, arcs, cells, first, own);
+    cross(starts, sources, arcs, cells, first, own);
     enter(starts, sources, arcs, losses, cells, own, next)
 }
 
 // The nodes from one rank to another hand on what comes to them.
-fn pass(
+fn cross(
     starts: &[u16; 256],
     sources: &[u16; 1040],
     arcs: &[u64; 1040],
@@ -39,8 +39,8 @@ fn pass(
     from: usize,
     to: usize,
 )
-    requires { ⌜ Passable (layersOf (now starts) (now sources) (now arcs)) from to (now cells) ⌝ }
-    ensures { λ _. ⌜ now (cells .exit) ≡ passNodes (layersOf (now (starts .entry)) (now (sources .entry)) (now (arcs .entry))) from (to - from) (now (cells .entry)) ⌝ }
+    requires { ⌜ Crossable (layersOf (now starts) (now sources) (now arcs)) from to (now cells) ⌝ }
+    ensures { λ _. ⌜ now (cells .exit) ≡ crossNodes (layersOf (now (starts .entry)) (now (sources .entry)) (now (arcs .entry))) from (to - from) (now (cells .entry)) ⌝ }
 {
     let mut at = start_of(starts, from);
     let mut i = from;

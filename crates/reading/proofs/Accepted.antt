@@ -16,13 +16,11 @@ use borrow.Author.Tests.{ltb-false, leb-true, not-false}
 use Rattle.diagram.specs.Words.{wordAt, kind, fieldP, fieldQ, fieldR}
 use Rattle.diagram.specs.Table.{Variable, choice, chance, variableOf, recordOf, sequence, tableOf, variableCount, recordCount, choiceCount, scaleOf, scale}
 use Rattle.diagram.specs.Checks.{firstPlace, headingFault, isVariableWord, variableFault, choiceFault, scaleFault, isMonotoneAt, placeZero, rewardFault}
+use Rattle.diagram.specs.Validity.{Formed, BoundedShares, no-shares, choice-shares, chance-shares, Monotone}
 use Rattle.diagram.proofs.Every.{both}
 use Rattle.diagram.proofs.Places.{sequence-length, none-at}
 use Rattle.diagram.proofs.Checked.{Passed}
-use Rattle.diagram.proofs.Truth.{Formed}
 use Rattle.diagram.proofs.Implication.{implies-same}
-use Rattle.diagram.proofs.FirstVariable.{Shares, no-shares, choice-shares, chance-shares}
-use Rattle.diagram.proofs.Rising.{Monotone}
 use Rattle.decoding.specs.Nodes.{Shaped}
 use Rattle.decoding.specs.Decoding.{Valid}
 use Rattle.decoding.proofs.Rooting.{roots-few, root-is}
@@ -60,19 +58,19 @@ passed-monotone {s} h k =
 -- The variables
 
 -- a word that check 14 lets through is a variable with a share
-word-shares : (i w : ℕ) {vs : List Variable} → isVariableWord i w ≡ true → Shares vs → Shares (variableOf w ∷ vs)
+word-shares : (i w : ℕ) {vs : List Variable} → isVariableWord i w ≡ true → BoundedShares vs → BoundedShares (variableOf w ∷ vs)
 unfolding isVariableWord variableOf
 word-shares i w {vs} h rest =
     go (eqb (kind w) 2) (eqb (fieldQ w) 0) (leb (fieldR w) 500) (eqb (kind w) 3) (fieldQ w) (fieldR w) (both (eqb (fieldP w) i) h .1)
   where
-    go : (b x y c : Bool) (p q : ℕ) → (b && x && y || c && (leb 1 q && leb q 1000) && leb p q) ≡ true → Shares (cond b choice (chance p q) ∷ vs)
+    go : (b x y c : Bool) (p q : ℕ) → (b && x && y || c && (leb 1 q && leb q 1000) && leb p q) ≡ true → BoundedShares (cond b choice (chance p q) ∷ vs)
     go true x y c p q e = choice-shares rest
     go false x y c p q e =
         let tests = both (c && (leb 1 q && leb q 1000)) e in
         let range = both (leb 1 q) (both c (tests .0) .1) in
         chance-shares (leb-true p q (tests .1)) (leb-true 1 q (range .0)) rest
 
-words-shares : (s : List ℕ) (i n : ℕ) → ((k : ℕ) → k < n → isVariableWord (i + k - 1) (wordAt s (i + k)) ≡ true) → Shares (sequence (λ i. variableOf (wordAt s i)) i n)
+words-shares : (s : List ℕ) (i n : ℕ) → ((k : ℕ) → k < n → isVariableWord (i + k - 1) (wordAt s (i + k)) ≡ true) → BoundedShares (sequence (λ i. variableOf (wordAt s i)) i n)
 unfolding sequence
 words-shares s i zero h = no-shares
 words-shares s i (suc n) h =
@@ -80,7 +78,7 @@ words-shares s i (suc n) h =
     word-shares (i - 1) (wordAt s i) (rw from at (h 0 (omega arith)))
     (words-shares s (suc i) n (λ k l. let on : i + suc k ≡ suc i + k = omega arith in rw on at (h (suc k) (omega arith))))
 
-pub passed-shares : {s : List ℕ} → Passed s → Shares (tableOf s .variables)
+pub passed-shares : {s : List ℕ} → Passed s → BoundedShares (tableOf s .variables)
 unfolding tableOf variableFault
 passed-shares {s} h =
     words-shares s 1 (variableCount s)

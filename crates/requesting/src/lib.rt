@@ -2,6 +2,7 @@
 mod plans;
 
 use diagram::MOST_BUDGET;
+use diagram::MOST_PERCENT;
 use plans::full_plan_fault;
 use plans::mark_fault;
 use reading::ReadAnswer;
@@ -43,7 +44,7 @@ pub fn check_request(plan: &[u8], budget: u32, percent: u32, size: usize, choice
     ensures { λ r. ⌜ ((s : List ℕ) → choices ≡ choiceCount (tableOf s .variables) → r ≡ finding (requestChecks (now (plan .entry)) budget percent size) s) ⌝ }
 {
     let found = check_plan(plan, choices);
-    let found = and_then(found, 23, above(100, percent));
+    let found = and_then(found, 23, above(MOST_PERCENT, percent));
     let found = and_then(found, 24, above(MOST_BUDGET, budget));
     and_then(found, 25, unequal(size, choices))
 }

@@ -9,9 +9,8 @@ use mathlib.Mathlib.Data.Bool.Basic.{eq-false-of-not-eq-true}
 use mathlib.Core.List.{List, [], _∷_, _++_, map, foldl, append-nil, append-assoc, List·Memᴰ, List·Memᴰ·head, List·Memᴰ·tail, List·Memᴰ·not-nil, List·Memᴰ·append-cases, List·Memᴰ·eq-of-singleton, Memᴰ·append-left, Memᴰ·append-right, Memᴰ·map, Memᴰ·of-map}
 use mathlib.Core.Option.{Option, none, some}
 use Rattle.diagram.specs.Table.{Table}
-use Rattle.diagram.specs.Plans.{completions}
+use Rattle.diagram.specs.Plans.{completions, Completes, complete, takes, leaves-open, keeps}
 use Rattle.diagram.specs.Ranking.{ranksBefore, better, firstRanked, isCandidate, select, bestPlan}
-use Rattle.diagram.proofs.Rising.{Completes, complete, takes, leaves-open, keeps}
 use Rattle.rule.proofs.Order.{ranks-transitive, ranks-total}
 
 -- An element of a list of plans

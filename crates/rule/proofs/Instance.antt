@@ -11,12 +11,12 @@ use borrow.Author.Tests.{le-ltb, ne-eqb}
 use lib.ListN.{length, set}
 use Rattle.diagram.specs.Table.{Table}
 use Rattle.diagram.specs.Score.{score}
-use Rattle.diagram.specs.Plans.{openTaken, openCount, isOpen, costOf, cost, upperBound, derivative, passes}
+use Rattle.diagram.specs.Plans.{openTaken, openCount, isOpen, costOf, cost, upperBound, derivative, passes, Completes, complete, takes, leaves-open, keeps}
 use Rattle.diagram.specs.Ranking.{ranksBefore, better}
 use Rattle.diagram.specs.Visits as visits
 use Rattle.diagram.specs.Visits.{Tally, lowestOpen, visit}
-use Rattle.diagram.proofs.Truth.{Formed}
-use Rattle.diagram.proofs.Rising.{Monotone, Completes, complete, takes, leaves-open, keeps, completion-le-bound, drop-le-bound, larger-passes}
+use Rattle.diagram.specs.Validity.{Formed, Monotone}
+use Rattle.diagram.proofs.Rising.{completion-le-bound, drop-le-bound, larger-passes}
 use Rattle.rule.specs.Rule.{terms, beaten, goesBack, worthwhile, rule, Bounding}
 use Rattle.rule.proofs.Opening.{lowest-open, open-count-set}
 

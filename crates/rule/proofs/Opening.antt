@@ -6,9 +6,8 @@ use mathlib.Core.Path.{_≡_, refl}
 use mathlib.Core.Bool.{true}
 use mathlib.Core.List.{List, [], _∷_, _++_, map-append}
 use lib.ListN.{length, set}
-use Rattle.diagram.specs.Plans.{completions, openCount, isOpen}
+use Rattle.diagram.specs.Plans.{completions, openCount, isOpen, Completes, complete, keeps}
 use Rattle.diagram.specs.Visits.{lowestOpen}
-use Rattle.diagram.proofs.Rising.{Completes, complete, keeps}
 
 -- where a line is open, the lowest open line is one of the plan's and is open
 pub lowest-open : (p : List ℕ) (n : ℕ) → openCount p ≡ suc n → (isOpen p (lowestOpen p) ≡ true) × (lowestOpen p < length p)

@@ -13,9 +13,8 @@ use borrow.Author.Tests.{ltb-true, lt-ltb, le-ltb, eqb-true, eqb-false, eq-eqb, 
 use lib.Dec.{eqb, ltb}
 use Rattle.diagram.specs.Table.{Table}
 use Rattle.diagram.specs.Score.{score, isTaken}
-use Rattle.diagram.specs.Plans.{cost}
+use Rattle.diagram.specs.Plans.{cost, Completes, complete, takes, leaves-open, keeps}
 use Rattle.diagram.specs.Ranking.{takesFirst, ranksBefore}
-use Rattle.diagram.proofs.Rising.{Completes, complete, takes, leaves-open, keeps}
 
 -- ---------------------------------------------------------------------------
 -- The lowest choice number where two differ

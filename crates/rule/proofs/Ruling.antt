@@ -13,11 +13,10 @@ use lib.ListN.{set}
 use lib.Dec.{ltb, leb}
 use lib.Pow.{pow-pos}
 use borrow.Author.Tests.{ltb-true, ltb-false, leb-true, le-ltb, le-leb, not-false}
-use Rattle.diagram.specs.Plans.{completions, openCount}
+use Rattle.diagram.specs.Plans.{completions, openCount, Completes, complete, takes, leaves-open, keeps}
 use Rattle.diagram.specs.Ranking.{select}
 use Rattle.diagram.specs.Visits.{Tally, lowestOpen}
 use Rattle.diagram.proofs.Every.{both, neither, tested}
-use Rattle.diagram.proofs.Rising.{Completes, complete, takes, leaves-open, keeps}
 use Rattle.rule.specs.Rule.{Terms, Bounding, beaten, goesBack, worthwhile, rule, candidate}
 use Rattle.rule.proofs.Opening.{open-count-set, completions-split, completions-full}
 

@@ -10,8 +10,7 @@ use Rattle.diagram.specs.Table.{Table}
 use Rattle.diagram.specs.Plans.{openCount, passing}
 use Rattle.diagram.specs.Ranking.{firstRanked, isCandidate, bestPlan}
 use Rattle.diagram.specs.Visits.{Tally, visited, visitCount}
-use Rattle.diagram.proofs.Truth.{Formed}
-use Rattle.diagram.proofs.Rising.{Monotone}
+use Rattle.diagram.specs.Validity.{Formed, Monotone}
 use Rattle.rule.specs.Rule.{terms, rule, candidate}
 use Rattle.rule.proofs.Ruling.{rule-visits, rule-first}
 use Rattle.rule.proofs.Instance.{terms-bounding, visit-rule}

@@ -10,10 +10,9 @@ use lib.Dec.{ltb, leb}
 use Rattle.diagram.specs.Table.{Table}
 use Rattle.diagram.specs.Score as scores
 use Rattle.diagram.specs.Plans as plans
-use Rattle.diagram.specs.Plans.{openCount}
+use Rattle.diagram.specs.Plans.{openCount, Completes}
 use Rattle.diagram.specs.Ranking.{better}
 use Rattle.diagram.specs.Visits.{Tally, lowestOpen}
-use Rattle.diagram.proofs.Rising.{Completes}
 
 -- The parts of the rule: a plan's bound and cost, a full plan's score, the budget, which scores pass, and which of the plan held and a finished plan is
 -- held from then on

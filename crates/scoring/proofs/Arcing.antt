@@ -1,5 +1,5 @@
 -- Arrays that a loop writes cell by cell, the products of b from each position on, and the weight of an arc as a quotient of two of them.
--- Assumes of the decoded table that it is accepted (`Sound`), and of the variables what check 14 finds (`Shares`), where a law says so.
+-- Assumes of the decoded table that it is accepted (`Sound`), and of the variables what check 14 finds (`BoundedShares`), where a law says so.
 use Prim.Native.Nat.{ℕ, zero, suc, _+_, _*_, _/_, _≤_, _<_, _^_}
 use native.Mathlib.Nat.{le-refl, zero-add, mul-le-mul-left, mul-le-mul-right, mul-div-cancel, eq-or-lt-of-le}
 use native.Mathlib.Numerals.{add-one}
@@ -13,9 +13,10 @@ use borrow.Author.Tests.{eq-eqb, ne-eqb}
 use Rattle.diagram.specs.Words.{kind, fieldQ, fieldR}
 use Rattle.diagram.specs.Table.{Variable, choice, chance, Record, Table, sequence, variableOf, recordAt, scaleOf}
 use Rattle.diagram.specs.Checks.{positionOf}
+use Rattle.diagram.specs.Validity.{BoundedShares, no-shares, choice-shares, chance-shares}
 use Rattle.diagram.proofs.Places.{sequence-length, sequence-at}
 use Rattle.diagram.proofs.Locality.{position-le, position-less}
-use Rattle.diagram.proofs.FirstVariable.{Shares, no-shares, choice-shares, chance-shares, scale-positive}
+use Rattle.diagram.proofs.FirstVariable.{scale-positive}
 use Rattle.decoding.specs.declared.table.Decoded.{Decoded}
 use Rattle.decoding.specs.Nodes.{column}
 use Rattle.decoding.specs.Decoding.{variablesIn, tableIn, Held, Sound}
@@ -121,7 +122,7 @@ scale-cons (chance a b) vs = omega arith
 pub suffix-step : (vs : List Variable) (x : ℕ) → x < length vs → scaleOf (drop x vs) ≡ scaleOf (drop (x + 1) vs) * scaleOf (getD vs x (chance 0 1) ∷ [])
 suffix-step vs x h = rw (drop-cons vs x (chance 0 1) h, add-one) (scale-cons (getD vs x (chance 0 1)) (drop (suc x) vs))
 
-pub suffix-le : {vs : List Variable} → Shares vs → (x : ℕ) → scaleOf (drop x vs) ≤ scaleOf vs
+pub suffix-le : {vs : List Variable} → BoundedShares vs → (x : ℕ) → scaleOf (drop x vs) ≤ scaleOf vs
 unfolding scaleOf
 suffix-le h zero = le-refl _
 suffix-le no-shares (suc x) = le-refl _
@@ -129,7 +130,7 @@ suffix-le (choice-shares h) (suc x) = suffix-le h x
 suffix-le (chance-shares {b} {vs} ab b1 h) (suc x) = omega (arith, suffix-le h x, mul-le-mul-right (scaleOf vs) b1)
 
 -- the product between two positions is the quotient of the products from each on
-pub suffix-gap : (t : Table) (x y : ℕ) → Shares (t .variables) → x ≤ y → y ≤ length (t .variables) → scaleOf (drop x (t .variables)) / scaleOf (drop y (t .variables)) ≡ gap t x y
+pub suffix-gap : (t : Table) (x y : ℕ) → BoundedShares (t .variables) → x ≤ y → y ≤ length (t .variables) → scaleOf (drop x (t .variables)) / scaleOf (drop y (t .variables)) ≡ gap t x y
 suffix-gap t x y h l m = rw (← gap-scale t x y l m) (mul-div-cancel (gap t x y) (scale-positive (shares-drop h y)))
 
 -- the product from position x on
@@ -155,7 +156,7 @@ pub table-variables : (d : Decoded) → variablesIn (d .words) (d .variables) �
 unfolding tableIn
 table-variables d = refl
 
-pub suffix-fits : {vs : List Variable} → Shares vs → scaleOf vs ≤ 2 ^ 56 → (x : ℕ) → suffix vs x ≤ 2 ^ 56
+pub suffix-fits : {vs : List Variable} → BoundedShares vs → scaleOf vs ≤ 2 ^ 56 → (x : ℕ) → suffix vs x ≤ 2 ^ 56
 suffix-fits h fits x = omega (arith, suffix-le h x, fits)
 
 -- ---------------------------------------------------------------------------
@@ -191,7 +192,7 @@ unfolding sharesBy
 shares-at share vs x h = sequence-at (λ i. share (getD vs i (chance 0 1))) 0 64 x 0 h ∙ rw zero-add
 
 -- a share, times b of the variables after position x and before position y, is at most the product from x on
-gap-fits : (t : Table) (x y share : ℕ) → Shares (t .variables) → x < y → y ≤ length (t .variables) → share * scaleOf (drop (x + 1) (t .variables)) ≤ scaleOf (drop x (t .variables)) → share * gap t (x + 1) y ≤ scaleOf (drop x (t .variables))
+gap-fits : (t : Table) (x y share : ℕ) → BoundedShares (t .variables) → x < y → y ≤ length (t .variables) → share * scaleOf (drop (x + 1) (t .variables)) ≤ scaleOf (drop x (t .variables)) → share * gap t (x + 1) y ≤ scaleOf (drop x (t .variables))
 gap-fits t x y share h l m e =
     omega (
       arith,
@@ -200,7 +201,7 @@ gap-fits t x y share h l m e =
     )
 
 -- the shares of a variable's two arcs, times the product after it, are the product from it on
-suffix-shares : (t : Table) (x : ℕ) → Shares (t .variables) → x < length (t .variables) → (m : ℕ) → let v = getD (t .variables) x (chance 0 1) in (highShare v m + lowShare v m) * scaleOf (drop (x + 1) (t .variables)) ≡ scaleOf (drop x (t .variables))
+suffix-shares : (t : Table) (x : ℕ) → BoundedShares (t .variables) → x < length (t .variables) → (m : ℕ) → let v = getD (t .variables) x (chance 0 1) in (highShare v m + lowShare v m) * scaleOf (drop (x + 1) (t .variables)) ≡ scaleOf (drop x (t .variables))
 suffix-shares t x h l m =
     let first = drop-cons (t .variables) x (chance 0 1) l in
     rw (first, add-one) (shares-sum (rw first at (shares-drop h x)) m)

@@ -17,9 +17,9 @@ use borrow.Author.Tests.{ne-eqb}
 use Rattle.diagram.specs.Table.{Variable, choice, chance, Table, Record, sequence, recordAt, isChoice, choiceCount, scaleOf}
 use Rattle.diagram.specs.Score.{isTaken}
 use Rattle.diagram.specs.Plans.{openTaken}
+use Rattle.diagram.specs.Validity.{BoundedShares, no-shares, choice-shares, chance-shares}
 use Rattle.diagram.proofs.Places.{sequence-at, sequence-past, sequence-snoc}
 use Rattle.diagram.proofs.Locality.{position-less}
-use Rattle.diagram.proofs.FirstVariable.{Shares, no-shares, choice-shares, chance-shares}
 use Rattle.decoding.specs.Nodes.{column}
 use Rattle.decoding.proofs.Columns.{column-at}
 use Rattle.scoring.specs.Value.{place, marksFrom, value, variableAt, markAt, highShare, lowShare, highWeight, lowWeight, highArc, lowArc}
@@ -125,7 +125,7 @@ arcsInForce n ps hs ls ha la ms W W′ =
       lowWeights = over (byNode (λ k. lowInForce (markAtNode ps ms k) (getD la (k + 2) 0)) n) W′;
     }
 
-pub scale-drop-le : {vs : List Variable} → Shares vs → (x : ℕ) → scaleOf (drop x vs) ≤ scaleOf vs
+pub scale-drop-le : {vs : List Variable} → BoundedShares vs → (x : ℕ) → scaleOf (drop x vs) ≤ scaleOf vs
 unfolding scaleOf
 scale-drop-le h zero = le-refl _
 scale-drop-le no-shares (suc x) = le-refl _

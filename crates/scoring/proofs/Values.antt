@@ -1,6 +1,6 @@
 -- The values of nodes: the gaps between positions, the weights of arcs, the bound of a value, the ends, and how a value goes by the first variable and
 -- over the variables that a walk skips.
--- Assumes of the records what check 17 finds (`Formed`) and of the variables what check 14 finds (`Shares`), where a law says so.
+-- Assumes of the records what check 17 finds (`Formed`) and of the variables what check 14 finds (`BoundedShares`), where a law says so.
 use Prim.Native.Nat.{ℕ, zero, suc, _+_, _-_, _*_, _≤_}
 use native.Mathlib.Nat.{le-refl, add-sub-of-le, sub-self}
 use native.Mathlib.Numerals.{add-one}
@@ -13,9 +13,10 @@ use lib.Seq.{drop-cons, drop-drop, take-add, drop-length, append-snoc, getD-at}
 use Rattle.diagram.specs.Table.{Variable, choice, chance, Table, recordAt, choiceCount, scaleOf, scale}
 use Rattle.diagram.specs.Score.{isTaken, truth, total, scoreFrom, score}
 use Rattle.diagram.specs.Checks.{positionOf}
-use Rattle.diagram.proofs.Truth.{Formed, truth-step, truth-false, truth-true}
+use Rattle.diagram.specs.Validity.{Formed, BoundedShares, no-shares, choice-shares, chance-shares}
+use Rattle.diagram.proofs.Truth.{truth-step, truth-false, truth-true}
 use Rattle.diagram.proofs.Locality.{position-le, position-less, child-later, truth-local}
-use Rattle.diagram.proofs.FirstVariable.{total-nil, total-choice, total-chance, total-same, Shares, no-shares, choice-shares, chance-shares, total-le, rewarded-same, rewarded-all}
+use Rattle.diagram.proofs.FirstVariable.{total-nil, total-choice, total-chance, total-same, total-le, rewarded-same, rewarded-all}
 use Rattle.scoring.specs.Value.{place, marksFrom, valueFrom, value, gap, rootedSum, variableAt, markAt, highShare, lowShare, highWeight, lowWeight}
 
 -- ---------------------------------------------------------------------------
@@ -39,14 +40,14 @@ gap-scale t x y h l = rw (drop-drop, add-sub-of-le h) at (scale-split (y - x) (d
 -- ---------------------------------------------------------------------------
 -- Shares
 
-pub shares-drop : {vs : List Variable} → Shares vs → (x : ℕ) → Shares (drop x vs)
+pub shares-drop : {vs : List Variable} → BoundedShares vs → (x : ℕ) → BoundedShares (drop x vs)
 shares-drop h zero = h
 shares-drop no-shares (suc x) = no-shares
 shares-drop (choice-shares h) (suc x) = shares-drop h x
 shares-drop (chance-shares ab b1 h) (suc x) = shares-drop h x
 
 -- the two arcs of a variable have all of its b
-pub shares-sum : {v : Variable} {vs : List Variable} → Shares (v ∷ vs) → (m : ℕ) → (highShare v m + lowShare v m) * scaleOf vs ≡ scaleOf (v ∷ vs)
+pub shares-sum : {v : Variable} {vs : List Variable} → BoundedShares (v ∷ vs) → (m : ℕ) → (highShare v m + lowShare v m) * scaleOf vs ≡ scaleOf (v ∷ vs)
 unfolding highShare lowShare scaleOf
 shares-sum (choice-shares {vs} h) m = go (isTaken m)
   where
@@ -63,7 +64,7 @@ weights-shares t p k hi lo x y e f = go _ _ _ _ e f
     go : (a b g h : ℕ) → g * hi ≡ x → h * lo ≡ y → a * g * hi + b * h * lo ≡ a * x + b * y
     go a b g h e f = omega (arith, ap (λ (z : ℕ). a * z) e, ap (λ (z : ℕ). b * z) f)
 
-pub weights-scale : (t : Table) → Formed (length (t .variables)) (t .records) → Shares (t .variables) → (p : List ℕ) (k : ℕ) → highWeight t p k * scaleOf (drop (place t (recordAt (t .records) k .hi)) (t .variables)) + lowWeight t p k * scaleOf (drop (place t (recordAt (t .records) k .lo)) (t .variables)) ≡ scaleOf (drop (recordAt (t .records) k .position) (t .variables))
+pub weights-scale : (t : Table) → Formed (length (t .variables)) (t .records) → BoundedShares (t .variables) → (p : List ℕ) (k : ℕ) → highWeight t p k * scaleOf (drop (place t (recordAt (t .records) k .hi)) (t .variables)) + lowWeight t p k * scaleOf (drop (place t (recordAt (t .records) k .lo)) (t .variables)) ≡ scaleOf (drop (recordAt (t .records) k .position) (t .variables))
 unfolding variableAt place
 weights-scale t h shares p k =
     let x = recordAt (t .records) k .position in
@@ -75,7 +76,7 @@ weights-scale t h shares p k =
     let both = shares-sum (rw first at (shares-drop shares x)) (markAt t p k) in
     rw (weights-shares t p k _ _ _ _ high low, first, add-one) (omega (arith, both))
 
-pub value-le : (t : Table) → Shares (t .variables) → (p : List ℕ) (n : ℕ) → value t p n ≤ scaleOf (drop (place t n) (t .variables))
+pub value-le : (t : Table) → BoundedShares (t .variables) → (p : List ℕ) (n : ℕ) → value t p n ≤ scaleOf (drop (place t n) (t .variables))
 unfolding value valueFrom
 value-le t shares p n = total-le (shares-drop shares (place t n)) _ _
 
@@ -122,7 +123,7 @@ total-first choice vs p f = rw (total-choice, ← drop-tail p 0) (go (isTaken (g
 total-first (chance a b) vs p f = total-chance a b vs p f
 
 -- a factor b for each of n variables that a test does not look at
-total-skip : (n : ℕ) {vs : List Variable} → n ≤ length vs → Shares vs → (p : List ℕ) (f g : List Bool → Bool) → ((r s : List Bool) → length r ≡ n → f (r ++ s) ≡ g s) → total vs p f ≡ scaleOf (take n vs) * total (drop n vs) (drop (choiceCount (take n vs)) p) g
+total-skip : (n : ℕ) {vs : List Variable} → n ≤ length vs → BoundedShares vs → (p : List ℕ) (f g : List Bool → Bool) → ((r s : List Bool) → length r ≡ n → f (r ++ s) ≡ g s) → total vs p f ≡ scaleOf (take n vs) * total (drop n vs) (drop (choiceCount (take n vs)) p) g
 unfolding scaleOf choiceCount
 total-skip zero {vs} l h p f g e = omega (arith, total-same vs p f g (λ s. e [] s refl))
 total-skip (suc n) l no-shares p f g e = absurd (omega arith)
@@ -176,7 +177,7 @@ module _ (t : Table) (h : Formed (length (t .variables)) (t .records)) where
 -- ---------------------------------------------------------------------------
 -- Skipped variables
 
-module _ (t : Table) (h : Formed (length (t .variables)) (t .records)) (shares : Shares (t .variables)) where
+module _ (t : Table) (h : Formed (length (t .variables)) (t .records)) (shares : BoundedShares (t .variables)) where
   -- a walk does not look at the variables between x and y, where the node stands at y or after
   from-skip : (p : List ℕ) (x y n : ℕ) → x ≤ y → y ≤ place t n → valueFrom t p x n ≡ gap t x y * valueFrom t p y n
   unfolding valueFrom gap place

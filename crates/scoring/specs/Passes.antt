@@ -6,8 +6,7 @@ use mathlib.Core.List.{List, [], _∷_, _++_}
 use lib.ListN.{length, getD, drop}
 use lib.Dec.{eqb}
 use Rattle.diagram.specs.Table.{Variable, Table, Record, chance, sequence, tableOf, variableCount, isChoice, choiceCount, scaleOf, scale}
-use Rattle.diagram.proofs.Truth.{Formed}
-use Rattle.diagram.proofs.FirstVariable.{Shares}
+use Rattle.diagram.specs.Validity.{Formed, BoundedShares}
 use Rattle.decoding.specs.Nodes.{column}
 use Rattle.decoding.specs.Decoding.{rootAt}
 use Rattle.scoring.specs.declared.roots.Roots.{Roots}
@@ -128,7 +127,7 @@ pub record Fits (a : Arcs) (n : ℕ) : Type 0 where
 -- The arrays hold table t's records and arcs and the marks of plan p: what the values of t's nodes under p are computed from
 pub record Marked (t : Table) (p : List ℕ) (n : ℕ) (ps hs ls ha la ms : List ℕ) : Type 0 where
   pub formed : Formed (length (t .variables)) (t .records)
-  pub shares : Shares (t .variables)
+  pub shares : BoundedShares (t .variables)
   pub bounded : scaleOf (t .variables) ≤ 2 ^ 56
   pub scaled : scale t ≤ 2 ^ 56
   pub few : length (t .variables) < 64

@@ -11,7 +11,7 @@ ghost use mathlib.Core.List.{[], _∷_};
 ghost use Prim.Native.Nat.{_+_, _*_, _/_, _≤_, _<_, _^_};
 ghost use lib.ListN.{getD};
 ghost use Rattle.diagram.specs.Table.{variableOf, scaleOf};
-ghost use Rattle.diagram.proofs.FirstVariable.{Shares};
+ghost use Rattle.diagram.specs.Validity.{BoundedShares};
 ghost use Rattle.decoding.specs.Decoding.{variablesIn};
 ghost use Rattle.scoring.specs.Value.{highShare, lowShare};
 ghost use Rattle.scoring.specs.Passes as passes;
@@ -20,7 +20,7 @@ ghost use Rattle.scoring.specs.Passes.{highShares, lowShares, arcWeight,
 // The product of b from each position on, of the first v variables. `lay_out` has an accepted table's words, whose product is at most
 // 2^56.
 pub fn products(words: &[u32; 64], v: u8) -> [u64; 64]
-    requires { ⌜ (v ≤ 60) × Shares (variablesIn (now words) v) × (scaleOf (variablesIn (now words) v) ≤ 2 ^ 56) ⌝ }
+    requires { ⌜ (v ≤ 60) × BoundedShares (variablesIn (now words) v) × (scaleOf (variablesIn (now words) v) ≤ 2 ^ 56) ⌝ }
     ensures { λ r. ⌜ r ≡ passes.products (variablesIn (now (words .entry)) v) ⌝ }
 {
     let mut products = [1u64; 64];

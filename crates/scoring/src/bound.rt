@@ -2,7 +2,6 @@
 use crate::force::in_force;
 use crate::force::marks_by_position;
 use crate::pass::pass_up;
-use crate::roots::Roots;
 use crate::roots::root_sum;
 use crate::weights::lay_out;
 use decoding::Decoded;
@@ -15,7 +14,7 @@ ghost use Rattle.diagram.specs.Table.{Table, sequence, choiceCount};
 ghost use Rattle.diagram.specs.Plans.{openTaken, upperBound};
 ghost use Rattle.decoding.specs.Decoding.{tableIn, Sound};
 ghost use Rattle.scoring.specs.Value.{value};
-ghost use Rattle.scoring.specs.Passes.{over, RootsHeld, Marked};
+ghost use Rattle.scoring.specs.Passes.{over, Marked};
 
 // The score with all open lines taken, of an accepted table and a plan that checks 21 and 22 let through.
 pub fn upper_bound(table: Decoded, plan: &[u8]) -> u64
@@ -27,7 +26,8 @@ pub fn upper_bound(table: Decoded, plan: &[u8]) -> u64
     let mut low_arcs = [0u64; 256];
     let roots = lay_out(table, &mut high_arcs, &mut low_arcs);
     let marks = marks_by_position(table, plan);
-    bound_of(
+    let mut values = [0u64; 256];
+    values_of(
         table.records,
         &table.positions,
         &table.high,
@@ -35,34 +35,6 @@ pub fn upper_bound(table: Decoded, plan: &[u8]) -> u64
         &high_arcs,
         &low_arcs,
         &marks,
-        roots,
-    )
-}
-
-// The score with all open lines taken, from the arrays of a table, its roots and a plan, as `decode`, `lay_out` and
-// `marks_by_position` leave them.
-pub fn bound_of<'a>(
-    n: usize,
-    positions: &'a [u8; 256],
-    high: &'a [u8; 256],
-    low: &'a [u8; 256],
-    high_arcs: &[u64; 256],
-    low_arcs: &[u64; 256],
-    marks: &[u8; 64],
-    roots: Roots,
-) -> u64
-    requires { ⌜ ((t : Table) × (p : List ℕ) × Marked t p n (now positions) (now high) (now low) (now «high_arcs») (now «low_arcs») (now marks) × RootsHeld t roots) ⌝ }
-    ensures { λ r. ⌜ ((t : Table) (p : List ℕ) → Marked t p n (now (positions .entry)) (now (high .entry)) (now (low .entry)) (now («high_arcs» .entry)) (now («low_arcs» .entry)) (now (marks .entry)) → RootsHeld t roots → r ≡ upperBound t p) ⌝ }
-{
-    let mut values = [0u64; 256];
-    values_of(
-        n,
-        positions,
-        high,
-        low,
-        high_arcs,
-        low_arcs,
-        marks,
         &mut values,
     );
     root_sum(roots, &values)

@@ -9,7 +9,6 @@ mod roots;
 mod weights;
 
 pub use answer::ScoreAnswer;
-pub use bound::bound_of;
 pub use bound::upper_bound;
 pub use bound::value_of;
 pub use bound::values_of;

@@ -15,7 +15,7 @@ use Rattle.diagram.specs.Plans.{openCount, cost, upperBound, isOpen}
 use Rattle.diagram.specs.Visits.{lowestOpen}
 use Rattle.cost.proofs.Kits.{cost-taken, cost-left}
 use Rattle.rule.proofs.Opening.{open-count-set}
-use Rattle.layers.specs.Layers.{Layers, passNodes, ownNodes, dropSum, leaveNodes, Enterable}
+use Rattle.layers.specs.Layers.{Layers, crossNodes, ownNodes, dropSum, leaveNodes, Enterable}
 use Rattle.layers.specs.Flows.{Line, Settles, Same}
 use Rattle.layers.specs.Lines.{firstRank, ownRank, nextRank, lineNumber, lineKits}
 use Rattle.search.specs.State.{padded, openLines, numbersFrom, Scene, Ground, Stands}
@@ -202,10 +202,10 @@ module _ {g : Scene} {l : Layers} {losses lines : List ℕ} (ground : Ground g l
 
         -- the cells then, and what leaving it loses
         abbrev pub entered : List ℕ
-        entered = ownNodes l own (to - own) (passNodes l from (own - from) cells)
+        entered = ownNodes l own (to - own) (crossNodes l from (own - from) cells)
 
         abbrev pub lost : ℕ
-        lost = dropSum l losses own (to - own) (passNodes l from (own - from) cells)
+        lost = dropSum l losses own (to - own) (crossNodes l from (own - from) cells)
 
         entered-same : Same from cells entered
         entered-same =

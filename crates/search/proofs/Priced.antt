@@ -8,8 +8,7 @@ use Rattle.diagram.specs.Table.{Table, scale}
 use Rattle.diagram.specs.Score.{scoreFrom, score}
 use Rattle.diagram.specs.Plans.{upperBound, passes, LeastPassing}
 use Rattle.diagram.specs.Checks.{isMonotoneAt}
-use Rattle.diagram.proofs.Truth.{Formed}
-use Rattle.diagram.proofs.Rising.{Monotone}
+use Rattle.diagram.specs.Validity.{Formed, Monotone}
 use Rattle.scoring.specs.Value.{place, marksFrom, valueFrom, value, gap, variableAt, highArc, lowArc}
 use Rattle.scoring.specs.Passes.{markOf}
 use Rattle.sweep.specs.Down.{rootWeight}

@@ -16,7 +16,7 @@ use Rattle.diagram.specs.Visits as visits
 use Rattle.diagram.specs.Visits.{lowestOpen}
 use Rattle.rule.specs.Rule.{Terms, terms, goesBack, worthwhile, rule}
 use Rattle.rule.proofs.Ruling.{rule-back, rule-full, rule-taken, rule-both, rule-visits}
-use Rattle.layers.specs.Layers.{Layers, passNodes, ownNodes, dropSum, leaveNodes, LayerEnterable, LineLeavable}
+use Rattle.layers.specs.Layers.{Layers, crossNodes, ownNodes, dropSum, leaveNodes, LayerEnterable, LineLeavable}
 use Rattle.layers.specs.Flows.{Same}
 use Rattle.incumbent.specs.Ranks.{ranksOver}
 use Rattle.layers.specs.Lines.{firstRank, ownRank, nextRank, lineNumber, lineKits}
@@ -158,7 +158,7 @@ module _ {g : Scene} {l : Layers} {losses lines cells marks best tally : List �
     take-ready = mark-ready marks (sizes .1)
 
     -- what leaving it loses is at most the bound
-    pub drop-ready : {lost : ℕ} → lost ≡ dropSum l losses own (to - own) (passNodes l from (own - from) cells) → lost ≤ bound
+    pub drop-ready : {lost : ℕ} → lost ≡ dropSum l losses own (to - own) (crossNodes l from (own - from) cells) → lost ≤ bound
     drop-ready e = omega (arith, e, branching.lost-bound (given .ground) (given .stands) more (sizes .0) .0)
 
     -- ---------------------------------------------------------------------------
@@ -168,7 +168,7 @@ module _ {g : Scene} {l : Layers} {losses lines cells marks best tally : List �
     abbrev first : Scene
     first = marked g d 1 (g .held)
 
-    module _ {cells₁ marks₁ : List ℕ} (enter : cells₁ ≡ ownNodes l own (to - own) (passNodes l from (own - from) cells)) (take : marks₁ ≡ set marks d 1) where
+    module _ {cells₁ marks₁ : List ℕ} (enter : cells₁ ≡ ownNodes l own (to - own) (crossNodes l from (own - from) cells)) (take : marks₁ ≡ set marks d 1) where
       first-given : Visitable first l losses lines cells₁ marks₁ best tally₁ (n - 1) (room - lineKits lines (n - 1 + 1)) bound
       first-given =
           record {
@@ -207,7 +207,7 @@ module _ {g : Scene} {l : Layers} {losses lines cells marks best tally : List �
             rw (branching.line-lowest (given .ground) (given .stands) more, counted-visits, branching.marked-count (given .ground) (given .stands) more 0 .1) refl
 
         -- the cells are the same up to the end of the layer
-        first-same : Same to (ownNodes l own (to - own) (passNodes l from (own - from) cells)) cells₂
+        first-same : Same to (ownNodes l own (to - own) (crossNodes l from (own - from) cells)) cells₂
         first-same = rw enter at (first-left .same)
 
         -- the plan has one line more open
@@ -223,7 +223,7 @@ module _ {g : Scene} {l : Layers} {losses lines cells marks best tally : List �
             let may = branching.leavable (given .ground) (given .stands) more in
             (few .0, few .1, first-left .sizes .0, may .0, may .1)
 
-        module _ {lost left : ℕ} (loss : lost ≡ dropSum l losses own (to - own) (passNodes l from (own - from) cells)) (less : left ≡ bound - lost) where
+        module _ {lost left : ℕ} (loss : lost ≡ dropSum l losses own (to - own) (crossNodes l from (own - from) cells)) (less : left ≡ bound - lost) where
           left-bound : left ≡ upperBound (g .table) (set (g .plan) d 2)
           left-bound = less ∙ rw (← loss) at (branching.lost-bound (given .ground) (given .stands) more (sizes .0) .1)
 

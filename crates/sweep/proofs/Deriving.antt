@@ -17,11 +17,11 @@ use Rattle.diagram.specs.Table.{chance, Table, Record, sequence, recordAt, isCh
 use Rattle.diagram.specs.Score.{score}
 use Rattle.diagram.specs.Plans.{openTaken, isOpen, upperBound, derivative, derivatives}
 use Rattle.diagram.specs.Checks.{positionOf}
+use Rattle.diagram.specs.Validity.{Monotone}
 use Rattle.diagram.proofs.Every.{both, and-true-both, both-ways}
 use Rattle.diagram.proofs.Places.{sequence-length, sequence-at}
 use Rattle.diagram.proofs.Locality.{position-less}
 use Rattle.diagram.proofs.FirstVariable.{scale-positive}
-use Rattle.diagram.proofs.Rising.{Monotone}
 use Rattle.decoding.proofs.Columns.{column-at}
 use Rattle.scoring.specs.declared.roots.Roots.{Roots}
 use Rattle.scoring.specs.Value.{place, value, rootedSum, variableAt, markAt, highWeight, lowWeight}

@@ -1,6 +1,6 @@
 -- Leaving one open line of a plan: at a record of its choice the value falls to what comes by the lo arc, and everywhere else a value still goes by the
 -- weights that the plan has with all open lines taken.
--- Assumes of the table what checks 14, 17 and 18 find (`Shares`, `Formed`, `Monotone`), where a law says so.
+-- Assumes of the table what checks 14, 17 and 18 find (`BoundedShares`, `Formed`, `Monotone`), where a law says so.
 use Prim.Native.Nat.{ℕ, zero, suc, _+_, _-_, _*_, _≤_, _<_}
 use native.Mathlib.Nat.{add-zero, add-sub-of-le, mul-le-mul-left}
 use native.Mathlib.Decide.{decLt}
@@ -16,11 +16,11 @@ use Rattle.diagram.specs.Table.{Variable, choice, chance, Table, recordAt, isCh
 use Rattle.diagram.specs.Score.{isTaken, truth, total, implies}
 use Rattle.diagram.specs.Plans.{openTaken, isOpen}
 use Rattle.diagram.specs.Checks.{isMonotoneAt}
+use Rattle.diagram.specs.Validity.{Formed, BoundedShares, Monotone}
 use Rattle.diagram.proofs.Every.{both, and-true-both, implied, each-assignment}
-use Rattle.diagram.proofs.Truth.{Formed}
 use Rattle.diagram.proofs.Locality.{position-less}
-use Rattle.diagram.proofs.FirstVariable.{total-nil, total-choice, total-chance, Shares}
-use Rattle.diagram.proofs.Rising.{Monotone, lo-hi}
+use Rattle.diagram.proofs.FirstVariable.{total-nil, total-choice, total-chance}
+use Rattle.diagram.proofs.Rising.{lo-hi}
 use Rattle.scoring.specs.Value.{place, marksFrom, valueFrom, value, variableAt, markAt, highShare, lowShare, highWeight, lowWeight, highArc, lowArc}
 use Rattle.scoring.proofs.Values.{value-skip, value-step}
 use Rattle.sweep.specs.Drops.{isOf, valueLoss}
@@ -79,7 +79,7 @@ choices-later (choice ∷ vs) (suc x) (suc y) h e = omega (arith, choices-later 
 choices-later (chance a b ∷ vs) (suc x) (suc y) h e = choices-later vs x y (omega arith) e
 
 -- ---------------------------------------------------------------------------
--- Shares of a choice
+-- BoundedShares of a choice
 
 -- a taken choice has its share on the hi arc
 shares-taken : (v : Variable) (m : ℕ) → isChoice v ≡ true → isTaken m ≡ true → (highShare v m ≡ highShare v 1) × (lowShare v m ≡ 0)
@@ -149,7 +149,7 @@ module _ (t : Table) (formed : Formed (length (t .variables)) (t .records)) (mon
       total-mono (drop (x + 1) (t .variables)) (marksFrom t (x + 1) u) _ _
       (λ s e. lo-hi t formed monotone k (replicate (x + 1) false ++ s) (rw length-append (omega arith)) c)
 
-  module _ (shares : Shares (t .variables)) where
+  module _ (shares : BoundedShares (t .variables)) where
     -- at a choice record no more comes by the lo arc than by the hi arc
     pub low-le-high : (u : List ℕ) (k : ℕ) → isChoice (variableAt t k) ≡ true → lowArc t k * value t u (recordAt (t .records) k .lo) ≤ highArc t k * value t u (recordAt (t .records) k .hi)
     unfolding highArc lowArc place
@@ -163,7 +163,7 @@ module _ (t : Table) (formed : Formed (length (t .variables)) (t .records)) (mon
 -- ---------------------------------------------------------------------------
 -- One line left
 
-module _ (t : Table) (formed : Formed (length (t .variables)) (t .records)) (monotone : Monotone t) (shares : Shares (t .variables)) where
+module _ (t : Table) (formed : Formed (length (t .variables)) (t .records)) (monotone : Monotone t) (shares : BoundedShares (t .variables)) where
   -- where a choice is taken, a value is what comes by the hi arc; where it is left, what comes by the lo arc
   value-taken : (u : List ℕ) (k : ℕ) → isChoice (variableAt t k) ≡ true → isTaken (markAt t u k) ≡ true → value t u (k + 2) ≡ highArc t k * value t u (recordAt (t .records) k .hi)
   value-taken u k c e =

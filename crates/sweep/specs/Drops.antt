@@ -7,8 +7,7 @@ use lib.ListN.{length, getD, take}
 use lib.Dec.{eqb}
 use Rattle.diagram.specs.Table.{Table, chance, recordAt, isChoice, choiceCount}
 use Rattle.diagram.specs.Plans.{openTaken, upperBound, derivative, LeastPassing}
-use Rattle.diagram.proofs.Truth.{Formed}
-use Rattle.diagram.proofs.Rising.{Monotone}
+use Rattle.diagram.specs.Validity.{Formed, Monotone}
 use Rattle.scoring.specs.Value.{value, variableAt, lowArc}
 
 -- ---------------------------------------------------------------------------

@@ -16,7 +16,7 @@ ghost use Prim.Native.Nat.{ℕ, _≤_};
 ghost use lib.ListN.{length, getD, replicate};
 ghost use Rattle.diagram.specs.Table.{Table, sequence, choiceCount};
 ghost use Rattle.diagram.specs.Plans.{upperBound, derivatives};
-ghost use Rattle.diagram.proofs.Rising.{Monotone};
+ghost use Rattle.diagram.specs.Validity.{Monotone};
 ghost use Rattle.decoding.specs.Decoding.{tableIn, Sound};
 ghost use Rattle.scoring.specs.Passes.{over, RootsHeld, Marked};
 ghost use Rattle.sweep.specs.Drops.{derivativeAt};

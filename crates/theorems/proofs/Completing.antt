@@ -10,9 +10,9 @@ use mathlib.Core.List.{List, [], _∷_}
 use lib.ListN.{length, getD}
 use borrow.Author.Tests.{leb-true, le-leb, eqb-true, eq-eqb, ne-eqb, not-true}
 use Rattle.diagram.specs.Table.{tableOf}
-use Rattle.diagram.specs.Plans.{completions, isOpen, leaves, noneOf, passing, passes}
+use Rattle.diagram.specs.Plans.{completions, isOpen, leaves, noneOf, passing, passes, Completes, complete, takes, leaves-open, keeps}
 use Rattle.diagram.proofs.Every.{both, and-true-both}
-use Rattle.diagram.proofs.Rising.{Completes, complete, takes, leaves-open, keeps, all-complete, each-complete}
+use Rattle.diagram.proofs.Rising.{all-complete, each-complete}
 use Rattle.theorems.specs.Plans.{Open, Completion, NonePasses, NoneLeaves}
 
 -- ---------------------------------------------------------------------------

@@ -13,14 +13,13 @@ use lib.Dec.{eqb, ltb, leb}
 use borrow.Author.Tests.{leb-true, le-leb, eq-eqb}
 use Rattle.diagram.specs.Table.{Root, tableOf}
 use Rattle.diagram.specs.Score.{sum, score, scoreFrom, rewarded, total}
-use Rattle.diagram.specs.Plans.{cost, passing, passes}
+use Rattle.diagram.specs.Plans.{cost, passing, passes, Completes, complete, takes, leaves-open, keeps}
 use Rattle.diagram.specs.Ranking.{takesFirst, ranksBefore, isCandidate, bestPlan}
 use Rattle.diagram.specs.Checks.{fullPlanFault, scoreChecks}
 use Rattle.diagram.specs.Services.{answered, written, scoreOutcome, searching, searchBuffer}
 use Rattle.diagram.proofs.Every.{both, and-true-both}
 use Rattle.diagram.proofs.Places.{no-place}
 use Rattle.diagram.proofs.Checked.{checked-passes, checked-end, read-answers}
-use Rattle.diagram.proofs.Rising.{Completes, complete, takes, leaves-open, keeps}
 use Rattle.rule.proofs.Order.{Before, higher, fewer, first, ranks}
 use Rattle.rule.proofs.First.{best-first, best-some}
 use Rattle.theorems.proofs.Answers.{score-is, search-refused, found-is, found-not-refused}

@@ -15,7 +15,7 @@ use Rattle.steps.specs.Steps.{faultOf}
 use Rattle.steps.specs.declared.verdict.Fault.the-variants.{At}
 use Rattle.implication.proofs.Cells.{tested-one, tested-zero}
 use Rattle.implication.proofs.Pairing.{held-position, unmonotone-at, unmonotone-test}
-use Rattle.implication.proofs.Stacking.{ask, Explored, explored}
+use Rattle.implication.proofs.Stacking.{ask, Drained, drained}
 use Rattle.implication.proofs.monotone.first_fault.Statement.{statement}
 use Rattle.implication.proofs.monotone.first_fault.Tie as tie
 
@@ -61,13 +61,13 @@ asked c =
     let e = c .meet .ensures in
     ask (c .before .before .before .before .before .before .before .before .before .before .before .before .before .before .before .loop .inv .2) (record { m-small = search needs; n-small = search needs; end = e .0; cells = e .1 .0; ones = e .1 .1 .0; twos = e .1 .1 .1 })
 
-explore-requires : tie.Need-explore-requires Inv-loop μ-loop
-explore-requires c κs = (_, _, asked (c .before .before .before .before .before .before .before))
+drain-requires : tie.Need-drain-requires Inv-loop μ-loop
+drain-requires c κs = (_, _, asked (c .before .before .before .before .before .before .before))
 
 -- what the stack says then
-found : (c : tie.After-explore Inv-loop μ-loop) → Explored (c .before .before .before .before .before .before .before .before .before .before .before .before .before .before .before .before .before .before .before .before .before .before .before .before .before .args .t1) (c .explore .last .0) (c .explore .last .1 .0) (c .explore .last .1 .1 .0) (c .before .before .before .before .before .before .before .before .before .before .before .before .before .before .before .before .before .before .before .before .before .before .before .loop .k)
+found : (c : tie.After-drain Inv-loop μ-loop) → Drained (c .before .before .before .before .before .before .before .before .before .before .before .before .before .before .before .before .before .before .before .before .before .before .before .before .before .args .t1) (c .drain .last .0) (c .drain .last .1 .0) (c .drain .last .1 .1 .0) (c .before .before .before .before .before .before .before .before .before .before .before .before .before .before .before .before .before .before .before .before .before .before .before .loop .k)
 found c =
-    explored (c .before .before .before .before .before .before .before .before .before .before .before .before .before .before .before .before .before .before .before .before .before .before .before .before .before .pre .0) (c .before .before .before .before .before .before .before .before .before .before .before .before .before .before .before .before .before .before .before .before .before .before .loop-test .taken) (c .before .before .before .before .before .before .before .before .before .before .before .before .before .before .before .before .before .asked-node .ensures) (c .before .before .before .before .before .before .before .before .before .before .before .before .asked-node2 .ensures) (search needs) (search needs) (c .explore .ensures _ _ (asked (c .before .before .before .before .before .before .before .before)))
+    drained (c .before .before .before .before .before .before .before .before .before .before .before .before .before .before .before .before .before .before .before .before .before .before .before .before .before .pre .0) (c .before .before .before .before .before .before .before .before .before .before .before .before .before .before .before .before .before .before .before .before .before .before .loop-test .taken) (c .before .before .before .before .before .before .before .before .before .before .before .before .before .before .before .before .before .asked-node .ensures) (c .before .before .before .before .before .before .before .before .before .before .before .before .asked-node2 .ensures) (search needs) (search needs) (c .drain .ensures _ _ (asked (c .before .before .before .before .before .before .before .before)))
 
 new-requires-2 : tie.Need-new-requires-2 Inv-loop μ-loop
 new-requires-2 c κs = search needs
@@ -76,7 +76,7 @@ new-requires-3 : tie.Need-new-requires-3 Inv-loop μ-loop
 new-requires-3 c κs = search needs
 
 -- the pair that is tested
-ends : (c : tie.After-is-met Inv-loop μ-loop) → c .is-met .result ≡ eqb (cell (c .before .before .before .before .explore .last .0) 1 0) 1
+ends : (c : tie.After-is-met Inv-loop μ-loop) → c .is-met .result ≡ eqb (cell (c .before .before .before .before .drain .last .0) 1 0) 1
 ends c = c .is-met .ensures ∙ rw (c .before .before .new2 .ensures, c .before .new3 .ensures) refl
 
 is-met-requires : tie.Need-is-met-requires Inv-loop μ-loop
@@ -133,7 +133,7 @@ first-fault-spec =
     asked-node-requires
     asked-node-requires-2
     meet-requires
-    explore-requires
+    drain-requires
     new-requires-2
     new-requires-3
     is-met-requires

@@ -1,7 +1,7 @@
--- `enter_layer` meets its contract: the nodes before the line are passed, and then its own are entered. Assumes nothing.
+-- `enter_layer` meets its contract: the nodes before the line are crossed, and then its own are entered. Assumes nothing.
 use borrow.Author.Needs.{needs}
 use native.Mathlib.Nat.{le-trans}
-use Rattle.layers.proofs.Walking.{passed-length}
+use Rattle.layers.proofs.Walking.{crossed-length}
 use Rattle.layers.proofs.walk.enter_layer.Statement.{statement}
 use Rattle.layers.proofs.walk.enter_layer.Tie as tie
 
@@ -38,28 +38,28 @@ element-copy-out-next c = search needs
 cast-next : tie.Need-cast-next
 cast-next c = search needs
 
-pass-requires : tie.Need-pass-requires
-pass-requires c κs =
+cross-requires : tie.Need-cross-requires
+cross-requires c κs =
     let pre = c .before .before .before .before .pre in
     let layer = pre .2 .1 in
     let own = layer .bounds .1 in
     let next = layer .bounds .2 in
-    (layer .bounds .0, layer .long, (pre .2 .0, layer .sized, le-trans own next, layer .passes))
+    (layer .bounds .0, layer .long, (pre .2 .0, layer .sized, le-trans own next, layer .crosses))
 
 enter-requires : tie.Need-enter-requires
 enter-requires c κs =
     let pre = c .before .before .before .before .before .before .pre in
     let layer = pre .2 .1 in
-    let passed = c .before .pass .ensures in (
+    let crossed = c .before .cross .ensures in (
       layer .bounds .1,
-      rw (passed, passed-length) (layer .long),
-      (pre .2 .0, layer .sized, layer .bounds .2, λ i h. rw passed (layer .enters i h), rw passed (layer .drops)),
+      rw (crossed, crossed-length) (layer .long),
+      (pre .2 .0, layer .sized, layer .bounds .2, λ i h. rw crossed (layer .enters i h), rw crossed (layer .drops)),
     )
 
 returns : tie.Need-returns
 returns c =
-    let passed = c .before .before .pass .ensures in
-    (rw (← passed) (c .enter .ensures .0), rw (← passed) (c .enter .ensures .1))
+    let crossed = c .before .before .cross .ensures in
+    (rw (← crossed) (c .enter .ensures .0), rw (← crossed) (c .enter .ensures .1))
 
 pub enter-layer-spec : {M : Type 1} → statement M
 enter-layer-spec =
@@ -76,6 +76,6 @@ enter-layer-spec =
     mul-next
     element-copy-out-next
     cast-next
-    pass-requires
+    cross-requires
     enter-requires
     returns)

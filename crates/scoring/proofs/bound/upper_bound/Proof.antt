@@ -1,10 +1,11 @@
 -- `upper_bound` meets its contract: the arrays hold the table and the plan, and the sum over the roots is the bound. Assumes nothing.
 use native.Mathlib.Omega.{arith}
-use mathlib.Core.Path.{refl}
+use mathlib.Core.Path.{refl, _∙_}
 use Rattle.decoding.specs.Decoding.{tableIn}
 use Rattle.decoding.proofs.Standing.{variables-in}
 use Rattle.scoring.specs.Passes.{Marked}
 use Rattle.scoring.proofs.Bounding.{marked}
+use Rattle.scoring.proofs.HeldRoots.{root-bound, root-sum-fits}
 use borrow.Author.Needs.{needs}
 use Rattle.scoring.proofs.bound.upper_bound.Statement.{statement}
 use Rattle.scoring.proofs.bound.upper_bound.Tie as tie
@@ -27,11 +28,18 @@ marks-by-position-requires c κs =
     let pre = c .before .before .before .before .pre in
     (omega (arith, variables-in (c .before .before .before .before .args .t1), pre .0 .valid .variables), pre .1 .0)
 
-bound-of-requires : tie.Need-bound-of-requires
-bound-of-requires c κs = (_, _, holds (c .before .before .before .before .before .before .before), c .before .before .before .before .before .before .before .before .lay-out .ensures .1 .1)
+values-of-requires : tie.Need-values-of-requires
+values-of-requires c κs = ((_, _, holds (c .before .before .before .before .before .before .before .before)), refl)
+
+root-sum-requires : tie.Need-root-sum-requires
+root-sum-requires c κs =
+    let at = c .before .before .before .before .before .before .before .before .before .before in
+    root-sum-fits (holds at) (at .before .lay-out .ensures .1 .1) _ (c .before .values-of .ensures _ _ (holds at))
 
 returns : tie.Need-returns
-returns c = c .bound-of .ensures _ _ (holds (c .before .before .before .before .before .before .before .before)) (c .before .before .before .before .before .before .before .before .before .lay-out .ensures .1 .1)
+returns c =
+    let at = c .before .before .before .before .before .before .before .before .before .before .before in
+    c .root-sum .ensures ∙ root-bound (holds at) (at .before .lay-out .ensures .1 .1) _ (c .before .before .values-of .ensures _ _ (holds at))
 
 pub upper-bound-spec : {M : Type 1} → statement M
-upper-bound-spec = tie.close (tie.spec lay-out-requires marks-by-position-requires bound-of-requires returns)
+upper-bound-spec = tie.close (tie.spec lay-out-requires marks-by-position-requires values-of-requires root-sum-requires returns)

@@ -1,12 +1,12 @@
--- `explore` meets its contract. The loop's invariant: the stack is one of the pair that was asked, whichever that is. A turn takes
+-- `drain` meets its contract. The loop's invariant: the stack is one of the pair that was asked, whichever that is. A turn takes
 -- one pair off, and each that it puts on has no more to be met. Assumes nothing.
 use Prim.Native.Nat.{ℕ, _+_}
 use native.Mathlib.Omega.{arith}
 use mathlib.Core.Path.{_≡_}
 use Rattle.implication.specs.Nodes.{zeros, Stack}
 use Rattle.implication.proofs.Stacking.{from-top}
-use Rattle.implication.proofs.monotone.explore.Statement.{statement}
-use Rattle.implication.proofs.monotone.explore.Tie as tie
+use Rattle.implication.proofs.monotone.drain.Statement.{statement}
+use Rattle.implication.proofs.monotone.drain.Tie as tie
 
 abbrev Inv-loop : tie.InvT-loop
 Inv-loop met₀ firsts₀ seconds₀ positions high low start depth₀ met firsts seconds depth =
@@ -21,23 +21,23 @@ loop-holds c = λ a b h. h
 sub-top : tie.Need-sub-top Inv-loop μ-loop
 sub-top c = omega (arith, c .loop-test .taken)
 
-pass-on-requires : tie.Need-pass-on-requires Inv-loop μ-loop
-pass-on-requires c κs =
+expand-requires : tie.Need-expand-requires Inv-loop μ-loop
+expand-requires c κs =
     let asked = c .before .before .before .before .before .pre in
     (asked .0, asked .1, from-top (c .before .before .before .loop-test .taken) (c .before .before .before .before .loop .inv _ _ (asked .2)))
 
 loop-less : tie.Need-loop-less Inv-loop μ-loop
-loop-less c = omega (arith, c .pass-on .ensures .1, c .before .before .before .before .loop-test .taken)
+loop-less c = omega (arith, c .expand .ensures .1, c .before .before .before .before .loop-test .taken)
 
 loop-again : tie.Need-loop-again Inv-loop μ-loop
-loop-again c = λ a b h. c .pass-on .ensures .0 a b (from-top (c .before .before .before .before .loop-test .taken) (c .before .before .before .before .before .loop .inv a b h))
+loop-again c = λ a b h. c .expand .ensures .0 a b (from-top (c .before .before .before .before .loop-test .taken) (c .before .before .before .before .before .loop .inv a b h))
 
 returns : tie.Need-returns Inv-loop μ-loop
 returns c = λ a b h.
     let e : c .before .loop .depth ≡ 0 = omega (arith, c .loop-test .left) in
     rw e at (c .before .loop .inv a b h)
 
-pub explore-spec : {M : Type 1} → statement M
-explore-spec =
+pub drain-spec : {M : Type 1} → statement M
+drain-spec =
     tie.close
-    (tie.spec Inv-loop μ-loop loop-holds sub-top pass-on-requires loop-less loop-again returns)
+    (tie.spec Inv-loop μ-loop loop-holds sub-top expand-requires loop-less loop-again returns)

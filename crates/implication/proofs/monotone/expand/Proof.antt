@@ -1,9 +1,9 @@
--- `pass_on` meets its contract: the pairs that the pair on top leads to are met one after the other. Assumes nothing.
+-- `expand` meets its contract: the pairs that the pair on top leads to are met one after the other. Assumes nothing.
 use Rattle.implication.specs.Nodes.{Room}
-use Rattle.implication.proofs.Stacking.{Meeting, take, pass-high, pass, pass-left}
+use Rattle.implication.proofs.Stacking.{Meeting, take, expand-high, expand-both, expand-left}
 use borrow.Author.Needs.{needs}
-use Rattle.implication.proofs.monotone.pass_on.Statement.{statement}
-use Rattle.implication.proofs.monotone.pass_on.Tie as tie
+use Rattle.implication.proofs.monotone.expand.Statement.{statement}
+use Rattle.implication.proofs.monotone.expand.Tie as tie
 
 -- the pair by high children, and the pair by low children, as they are met
 high-meeting : (c : tie.After-meet) → Meeting (c .before .before .before .before .before .before .before .before .before .before .before .before .args .met .now) (c .before .before .before .before .before .before .before .before .before .before .before .before .args .firsts .now) (c .before .before .before .before .before .before .before .before .before .before .before .before .args .seconds .now) (c .before .before .before .before .before .before .before .before .before .before .before .before .args .top) (c .before .before .before .before .before .before .before .step .result .0) (c .before .before .before .before .before .before .step2 .result .0) (c .meet .last .0) (c .meet .last .1 .0) (c .meet .last .1 .1 .0) (c .meet .result)
@@ -18,7 +18,7 @@ low-meeting c =
 
 -- there is room for the second
 between : (c : tie.After-meet) → Room (c .meet .last .0) (c .meet .last .1 .0) (c .meet .last .1 .1 .0) (c .meet .result)
-between c = pass-high (c .before .before .before .before .before .before .before .before .before .before .before .before .pre .2) (c .before .before .before .before .before .before .before .before .before .before .new .ensures) (c .before .before .before .before .before .before .before .before .new2 .ensures) (c .before .before .before .before .before .before .before .step .ensures) (c .before .before .before .before .before .before .step2 .ensures) (high-meeting c) .room
+between c = expand-high (c .before .before .before .before .before .before .before .before .before .before .before .before .pre .2) (c .before .before .before .before .before .before .before .before .before .before .new .ensures) (c .before .before .before .before .before .before .before .before .new2 .ensures) (c .before .before .before .before .before .before .before .step .ensures) (c .before .before .before .before .before .before .step2 .ensures) (high-meeting c) .room
 
 element-copy-out-new : tie.Need-element-copy-out-new
 element-copy-out-new c = search needs
@@ -59,10 +59,10 @@ returns c =
     let lm = c .before .before .before .before .before .before .before .before .before .step3 .ensures in
     let ln = c .before .before .before .before .before .before .before .before .step4 .ensures in
     let g = high-meeting (c .before .before .before .before) in
-    (λ a b h. pass h pair pair2 hm hn g lm ln (low-meeting c), pass-left (c .before .before .before .before .before .before .before .before .before .before .before .before .before .before .before .before .pre .2) pair pair2 hm hn g lm ln (low-meeting c))
+    (λ a b h. expand-both h pair pair2 hm hn g lm ln (low-meeting c), expand-left (c .before .before .before .before .before .before .before .before .before .before .before .before .before .before .before .before .pre .2) pair pair2 hm hn g lm ln (low-meeting c))
 
-pub pass-on-spec : {M : Type 1} → statement M
-pass-on-spec =
+pub expand-spec : {M : Type 1} → statement M
+expand-spec =
     tie.close
     (tie.spec
     element-copy-out-new

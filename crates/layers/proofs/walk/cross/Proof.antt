@@ -1,21 +1,21 @@
--- `pass` meets its contract. The loop's invariant: the cells are those that the nodes so far leave, and the next node's arcs begin at `at`. The measure is
+-- `cross` meets its contract. The loop's invariant: the cells are those that the nodes so far leave, and the next node's arcs begin at `at`. The measure is
 -- the number of nodes left. Assumes nothing.
 use Prim.Native.Nat.{_-_, _≤_, _<_}
 use native.Mathlib.Nat.{le-refl}
 use native.Mathlib.Omega.{arith}
 use mathlib.Core.Path.{_≡_}
 use lib.ListN.{length, getD}
-use Rattle.layers.specs.Layers.{Layers, passNodes}
-use Rattle.layers.proofs.Walking.{node-ready, node-flow, pass-none, pass-next, pass-fits, pass-all, put-length}
-use Rattle.layers.proofs.walk.pass.Statement.{statement}
-use Rattle.layers.proofs.walk.pass.Tie as tie
+use Rattle.layers.specs.Layers.{Layers, crossNodes}
+use Rattle.layers.proofs.Walking.{node-ready, node-flow, cross-none, cross-next, cross-fits, cross-all, put-length}
+use Rattle.layers.proofs.walk.cross.Statement.{statement}
+use Rattle.layers.proofs.walk.cross.Tie as tie
 
 abbrev Inv-loop : tie.InvT-loop
 Inv-loop starts sources arcs cells₀ from to at₀ i₀ cells at i =
     (from ≤ i)
     × (i ≤ to)
     × (length cells ≡ 512)
-    × (cells ≡ passNodes (record { starts = starts; sources = sources; arcs = arcs }) from (i - from) cells₀)
+    × (cells ≡ crossNodes (record { starts = starts; sources = sources; arcs = arcs }) from (i - from) cells₀)
     × (at ≡ getD starts i 0)
 
 abbrev μ-loop : tie.MeasureT-loop
@@ -32,7 +32,7 @@ start-of-requires c κs =
 loop-holds : tie.Need-loop-holds Inv-loop μ-loop
 loop-holds c =
     let start = c .before in
-    (le-refl _, start .pre .0, start .pre .1, pass-none (layers start) _ _, c .start-of .ensures)
+    (le-refl _, start .pre .0, start .pre .1, cross-none (layers start) _ _, c .start-of .ensures)
 
 -- the rank of a turn is that of a node
 rank : (c : tie.In-loop Inv-loop μ-loop) → c .before .loop .i < c .before .before .before .pre .2 .0
@@ -58,7 +58,7 @@ flow-requires c κs =
     let inv = turn .before .loop .inv in
     let start = turn .before .before .before in
     node-ready (layers start) _ (start .pre .2 .1) (rank turn) (inv .4) (c .before .start-of2 .ensures)
-    (pass-fits (layers start) _ _ (inv .0) (turn .loop-test .taken) (start .pre .2 .3) (inv .3))
+    (cross-fits (layers start) _ _ (inv .0) (turn .loop-test .taken) (start .pre .2 .3) (inv .3))
 
 put-both-requires : tie.Need-put-both-requires Inv-loop μ-loop
 put-both-requires c κs =
@@ -82,17 +82,17 @@ loop-again c =
       omega arith,
       omega arith,
       rw (c .put-both .ensures, put-length) (inv .2),
-      pass-next (layers start) _ _ (inv .0) (inv .3) flow (c .put-both .ensures),
+      cross-next (layers start) _ _ (inv .0) (inv .3) flow (c .put-both .ensures),
       next,
     )
 
 returns : tie.Need-returns Inv-loop μ-loop
 returns c =
     let inv = c .before .loop .inv in
-    pass-all (layers (c .before .before .before)) _ _ (inv .1) (omega arith) (inv .3)
+    cross-all (layers (c .before .before .before)) _ _ (inv .1) (omega arith) (inv .3)
 
-pub pass-spec : {M : Type 1} → statement M
-pass-spec =
+pub cross-spec : {M : Type 1} → statement M
+cross-spec =
     tie.close
     (tie.spec
     Inv-loop
