@@ -15,11 +15,10 @@ use lib.Dec.{eqb, leb}
 use Rattle.diagram.specs.Table.{Table, sequence}
 use Rattle.diagram.specs.Score.{score}
 use Rattle.diagram.specs.Plans.{completions, openTaken, isOpen, leaves, upperBound, derivative, passes, noneOf, passing, forced, forcedPlan, countOf, forcedCount}
-use Rattle.diagram.specs.Validity.{Formed}
+use Rattle.diagram.specs.Validity.{Formed, Monotone}
 use Rattle.diagram.proofs.Every.{both-ways}
 use Rattle.diagram.proofs.Places.{sequence-length, sequence-snoc}
 use Rattle.diagram.proofs.Rising.{
-  Monotone,
   all-complete,
   each-complete,
   openTaken-completes,
