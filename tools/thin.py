@@ -1,7 +1,7 @@
 #!/usr/bin/env python3
 # Writes proofs/F/Proof.antt of a thin function F, one that takes its parameters apart, or makes a struct of one by a first call, then calls ONE function, its
 # core, and hands the answer on: the prover does not cover such a function, and its proof is a walk of its MIR. Usage, from the root, then `rt fmt`:
-#   tools/thin.py F > crates/opened/proofs/F/Proof.antt      (of the module `request`: proofs/request/F)
+#   tools/thin.py F > crates/opened/proofs/F/Proof.antt      (of F named `open_and_..`: crates/opened_requests)
 # The entries are in specs() at the end. Their fields:
 #   params     held (a struct of & slices and plain fields, by value), shr (&[T]), mutslice (&mut [T], lent on), num,
 #              mutstruct (&mut S, read out whole and stored back), refstruct (&S, read out whole). `name` is the proof's variable, `lft` the lifetime's number
@@ -62,6 +62,7 @@ def trimmed(text): # without the names that the file does not use
 def gen(S):
     cr=S['crate']; P=S['params']; nl=S['lifetimes']; core=S['core']; args=S['args']; cl=S['core_lifetimes']; R=S['result']; fn=S['path'][-1]
     mod='.'.join(S['path']); key=('#'+cr+'·'+'·'.join(S['path'])).replace('_','-'); cc=S.get('core_crate',cr); ckey=('#'+cc+'·'+core).replace('_','-')
+    home=lambda c,part: f'Rattle.{c}.{part}' if c==cr else f'Rattle.{c}.{part}'
     K=lambda i:'κ'+SUB[i]; Q=lambda i:'q'+SUB[i]
     κs='κs'; qs='qs'; same=list(cl)==list(range(nl)); cκ='κs' if same else tup([K(i) for i in cl]); cq='qs' if same else tup([Q(i) for i in cl])
     names=[('κs',f'Lfts {nl}',tup([K(i) for i in range(nl)])),('qs',f'Shares {nl}',tup([Q(i) for i in range(nl)]))]
@@ -85,7 +86,7 @@ def gen(S):
     # the first call: its answer as the proof knows it
     F=S.get('first')
     if F:
-        n=F['name']; f_t=ty(F['type']); f_row=at_lft(f_t,'the-row',F['lft']); f_p=P[F['param']]; f_κ=tup([K(F['lft'])]); f_q=tup([Q(F['lft'])]); fkey=('#'+cr+'·'+F['core']).replace('_','-')
+        n=F['name']; f_t=ty(F['type']); f_row=at_lft(f_t,'the-row',F['lft']); f_p=P[F['param']]; f_κ=tup([K(F['lft'])]); f_q=tup([Q(F['lft'])]); fkey=('#'+F['crate']+'·'+F['core']).replace('_','-')
         short(n,F['type'],F['value']); f_D=short(f'{n}-type','Declared',at_lft(f_t,'the-type',F['lft'])); f_L=short(f'{n}-laws',f'LL.Laws {n}-type',at_lft(f_t+'′','the-laws',F['lft'])); f_val=short(f'{n}-val','Val',f'LL.val {n}-type {n}-laws {n}')
         f_arg=short('first-arg',f'Args first.signature {f_κ}',tup([f_p['name']])); f_vals=short('first-vals',f'Vals first.signature {f_κ}',tup([f'{f_p["name"]}-val ∷ []']))
     # what the core is passed: denotation, machine value, row (at the core's own lifetimes)
@@ -417,16 +418,15 @@ use denote.Triple.Table.{entered, cited}
 use denote.Triple.Clauses.{ensured, lasts, atExit}
 use denote.Triple.Walked.{says, needs, Stays, stay-ref, stay-none, stay-none-ref, stay-none-slice, gave-slice, walkOf, goes-none, goes-none-ref, goes-none-slice, goes-ref, goes-gave-slice, Walks, ends-at, walked, walk-meets}
 use denote.Exit.{yes}''')
-    o.append(f'use Rattle.{cr}.proofs.Promises.{{both}}')
+    o.append(f'use {home("opened","proofs")}.Promises.{{both}}')
     o+=S.get('uses',[])
     for t in types:
         n=f'T{SUB[types.index(t)]}'
-        oc=S.get('type_crate',{}).get(t,cr); sp,pf=(f'Rattle.{cr}.specs',f'Rattle.{cr}.proofs') if oc==cr else (f'Rattle.{oc}.specs',f'Rattle.{oc}.proofs')
+        oc=S.get('type_crate',{}).get(t,cr); sp,pf=home(oc,'specs'),home(oc,'proofs')
         m=S.get('type_module',{}).get(t,''); m=m+'.' if m else ''
         o.append(f'use {sp}.declared.{m}{t}.{{{t}}}\nuse {pf}.{m}{t} as {n}\nuse {pf}.{m}{t}.Laws as {n}′')
-    pp=f'Rattle.{cr}.proofs'
-    cp=pp if cc==cr else f'Rattle.{cc}.proofs'
-    for x,m,k in ([('first',f'{pp}.{F["core"]}',fkey)] if F else [])+[('core',f'{cp}.{core}',ckey)]: o.append(f'use {m} as {x}\nuse {m}.Symbol as {x}-def\nuse {m}.Symbol.{{name as {k}}}\nuse {m}.Met as {x}-thm')
+    pp=home(cr,'proofs')
+    for x,m,k in ([('first',f'{home(F["crate"],"proofs")}.{F["core"]}',fkey)] if F else [])+[('core',f'{home(cc,"proofs")}.{core}',ckey)]: o.append(f'use {m} as {x}\nuse {m}.Symbol as {x}-def\nuse {m}.Symbol.{{name as {k}}}\nuse {m}.Met as {x}-thm')
     o.append(f'use {pp}.{mod}.Key.{{name as {key}}}\nuse {pp}.{mod} as me\nuse {pp}.{mod}.Statement as stated\nuse {pp}.{mod}.Code as code\n')
     o.append(f'abbrev stayed : Stays (me.ended .signature .params) (me.ended .kept)\nstayed = {tup([stay(p) for p in P])}\n')
     G='{M : Type 1} (𝓤 : URA M) (H : Heap 𝓤) (A : Atoms 𝓤)'; MR='(at-mem : Memory → SProp 𝓤) (run : Routine → Fun 𝓤)'
@@ -493,8 +493,8 @@ def specs():
         type_crate={answer:crate},type_module={'Table':'table',answer:'answer'},params=params,args=[('field',0,0)]+[('param',i) for i in range(1,len(params))],result=dict(kind='enum',type=answer),facts=facts,uses=uses)
     R='readOutcome (now file)'; FILE=dict(kind='shr',name='file',elem='u8',lft=0); made='tableWith file (openingFor ('+R+'))'; opens=[f'openedOf r ≡ {R}',f'r ≡ {made}']
     def asks(fn,of): # a request: the file is opened, and the service asked of the opened table
-        of=dict(of,path=['request',fn],core=of['path'][0],core_crate='opened',params=[dict(FILE)]+of['params'][1:],args=[('local',)]+of['args'][1:],facts=[x.replace('(t .bytes)','file') for x in of['facts']])
-        return dict(of,first=dict(core='open',name='t',type='Table',lft=0,param=0,value=made,facts=[x.replace('openedOf r','openedOf x').replace('r ≡','x ≡') for x in opens]),uses=merged(of['uses'],['use Rattle.diagram.specs.Services.{readOutcome}','use Rattle.opened.specs.Answer.{openingFor, openedOf, tableWith}']))
+        of=dict(of,crate='opened_requests',path=[fn],core=of['path'][0],core_crate='opened',type_crate=dict(of['type_crate'],Table='opened'),params=[dict(FILE)]+of['params'][1:],args=[('local',)]+of['args'][1:],facts=[x.replace('(t .bytes)','file') for x in of['facts']])
+        return dict(of,first=dict(crate='opened',core='open',name='t',type='Table',lft=0,param=0,value=made,facts=[x.replace('openedOf r','openedOf x').replace('r ≡','x ≡') for x in opens]),uses=merged(of['uses'],['use Rattle.diagram.specs.Services.{readOutcome}','use Rattle.opened.specs.Answer.{openingFor, openedOf, tableWith}']))
     thin={
     'open':dict(crate='opened',path=['open'],core='opening_of',lifetimes=1,core_lifetimes=[0],type_module={'Table':'table','Opening':'table'},params=[dict(kind='shr',name='bytes',elem='u8',lft=0)],args=[('param',0)],
         result=dict(kind='struct',type='Opening',fields=['variables','records','choices','scale','state'],make=dict(type='Table',lft=0,fields=['bytes','variables','records','choices','scale','state'],
@@ -504,15 +504,15 @@ def specs():
     'score':one('score','scoring','ScoreAnswer',[dict(TABLE),dict(PLAN)],[f'outcomeOf r ≡ scoreOutcome {B} (now plan)'],['use Rattle.diagram.specs.Services.{scoreOutcome}','use Rattle.scoring.specs.Answer.{outcomeOf}']),
     'sweep':one('sweep','sweep','SweepAnswer',[dict(TABLE),dict(PLAN),out('drops','u64')],[f'sweepOf r (zs .1 .1 .0) ≡ sweepOutcome {B} (now plan) (length drops)',f'zs .1 .1 .0 ≡ sweepBuffer {B} (now plan) drops'],
         ['use Rattle.diagram.specs.Services.{sweepOutcome, sweepBuffer}','use Rattle.sweep.specs.Answer.{sweepOf}']),
-    'filter':one('filter','sweep','FilterAnswer',[dict(TABLE),dict(PLAN),num('percent'),out('out','u8')],[f'filterOf r (zs .1 .1 .1 .0) ≡ filterOutcome {B} (now plan) percent (length out)',f'zs .1 .1 .1 .0 ≡ filterBuffer {B} (now plan) percent out'],
-        ['use Rattle.diagram.specs.Services.{filterOutcome, filterBuffer}','use Rattle.sweep.specs.Answer.{filterOf}']),
+    'filter':one('filter','filtering','FilterAnswer',[dict(TABLE),dict(PLAN),num('percent'),out('out','u8')],[f'filterOf r (zs .1 .1 .1 .0) ≡ filterOutcome {B} (now plan) percent (length out)',f'zs .1 .1 .1 .0 ≡ filterBuffer {B} (now plan) percent out'],
+        ['use Rattle.diagram.specs.Services.{filterOutcome, filterBuffer}','use Rattle.filtering.specs.Answer.{filterOf}']),
     'search':one('search','search','SearchAnswer',[dict(TABLE),dict(PLAN),num('budget'),num('percent'),out('out','u8')],[f'searchOf r (zs .1 .1 .1 .1 .0) ≡ searchOutcome {B} (now plan) budget percent (length out)',f'zs .1 .1 .1 .1 .0 ≡ searchBuffer {B} (now plan) budget percent out','visitsOf r + 1 ≤ 2 ^ suc (openCount (now plan))'],
         ['use Rattle.diagram.specs.Plans.{openCount}','use Rattle.diagram.specs.Services.{searchOutcome, searchBuffer}','use Rattle.search.specs.Answer.{searchOf, visitsOf}']),
-    'open_and_read':dict(crate='opened',path=['request','open_and_read'],core='open',lifetimes=1,core_lifetimes=[0],type_module={x:'table' for x in ['Table','Opening','State']},params=[dict(FILE)],args=[('param',0)],
+    'open_and_read':dict(crate='opened_requests',path=['open_and_read'],core='open',core_crate='opened',type_crate={x:'opened' for x in ['Table','Opening','State']},lifetimes=1,core_lifetimes=[0],type_module={x:'table' for x in ['Table','Opening','State']},params=[dict(FILE)],args=[('param',0)],
         result=dict(kind='held',type='Table',lft=0,fields=['bytes','variables','records','choices','scale','state'],make=dict(type='Opening',fields=['variables','records','choices','scale','state'],
         **{'from':[('res','variables',1,'usize'),('res','records',2,'usize'),('res','choices',3,'usize'),('res','scale',4,'u64'),('enum','state',5,'State')]})),
         facts=opens,says=['e₀','ap openingIn e₁'],
         uses=['use Rattle.diagram.specs.Services.{readOutcome}','use Rattle.opened.specs.Answer.{openingFor, openedOf, tableWith}','use Rattle.opened.proofs.Openings.{openingIn}']),
     }
     return dict(thin,**{f'open_and_{x}':asks(f'open_and_{x}',thin[x]) for x in ['score','sweep','filter','search']})
 if __name__=='__main__': print(gen(specs()[sys.argv[1]]),end='')

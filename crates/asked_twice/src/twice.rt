@@ -3,14 +3,14 @@ use agreement::Tally;
 use agreement::same_marks;
 use agreement::same_numbers;
 use counter::Verdict;
-use diagram::Refusal;
+use filtering::FilterAnswer;
 use made_files::Marks;
 use made_files::least;
 use reading::ReadAnswer;
 use scoring::ScoreAnswer;
 use search::SearchAnswer;
-use sweep::FilterAnswer;
 use sweep::SweepAnswer;
+use terms::Refusal;
 
 // What comes with a file and a plan: the table's number, the size of the lent buffer, the kits and the percentage.
 pub struct Asked {
@@ -52,7 +52,7 @@ pub fn filter_twice(tally: Tally, asked: Asked, file: &[u8], plan: &[u8]) -> Tal
     let n = lent.length();
     let mut mine = lent.marks;
     let mut other = lent.marks;
-    let ours = of_filter(sweep::filter(file, plan, asked.percent, &mut mine[..n]));
+    let ours = of_filter(filtering::filter(file, plan, asked.percent, &mut mine[..n]));
     let theirs = counter::filter(file, plan, asked.percent, &mut other[..n]);
     tally.with(
         Tally::FILTER,

@@ -1,5 +1,5 @@
 // What a plan costs.
-use diagram::Plan;
+use terms::Plan;
 ghost use mathlib.Core.Path.{_≡_};
 ghost use Prim.Native.Nat.{_<_, _≤_};
 ghost use lib.ListN.{length};

@@ -1,17 +1,18 @@
 -- An array by node number that is filled cell by cell, the two ends first and then record after record.
 -- Assumes nothing.
-use Prim.Native.Nat.{ℕ, zero, suc, _+_, _<_}
+use Prim.Native.Nat.{ℕ, zero, suc, _+_, _-_, _≤_, _<_}
 use native.Mathlib.Nat.{zero-add}
 use native.Mathlib.Numerals.{add-one}
 use native.Mathlib.Omega.{arith}
 use mathlib.Core.Path.{_≡_, refl, ap, sym, _∙_}
-use mathlib.Core.List.{List, [], _∷_}
-use lib.ListN.{length, getD, set, replicate, length-set}
-use lib.Seq.{take-all, take-suc-set, getD-take}
+use mathlib.Core.List.{List, [], _∷_, _++_}
+use lib.ListN.{length, getD, set, take, replicate, length-set}
+use lib.Seq.{take-suc-set, getD-take}
 use Rattle.diagram.specs.Table.{Record, sequence, recordAt}
 use Rattle.diagram.specs.Checks.{positionOf}
-use Rattle.diagram.proofs.Places.{sequence-at, sequence-snoc}
-use Rattle.decoding.specs.Nodes.{column, Filled, Placed}
+use Rattle.diagram.proofs.Places.{sequence-length, sequence-at, sequence-snoc}
+use Rattle.decoding.specs.Nodes.{column, Filled, Positioned}
+use Rattle.decoding.specs.Decoding.{padTo}
 
 pub fill-ends : {end : ℕ} {f : ℕ → ℕ} {cells : List ℕ} (before : List ℕ) (x : ℕ) → length before ≡ 256 → cells ≡ set (set before 0 x) 1 x → x ≡ end → Filled end f cells 0
 unfolding sequence
@@ -36,10 +37,23 @@ fill-next {end} {f} {cells} {before} {k} x filled h e y =
       front = rw (on, take-suc-set before (k + 2) x (omega arith), filled .front, y, add-one k) (ap (λ (l : List ℕ). end ∷ end ∷ l) (rw zero-add at (sequence-snoc f 0 k)));
     })
 
-pub fill-all : {end : ℕ} {f : ℕ → ℕ} {cells : List ℕ} → Filled end f cells 254 → cells ≡ end ∷ end ∷ sequence f 0 254
-fill-all {cells} filled =
-    let long = filled .size in
-    sym (take-all 256 cells (omega arith)) ∙ filled .front
+-- past the last record are zeros
+zeros-past : (f : ℕ → ℕ) (i n j : ℕ) → ((k : ℕ) → i + n ≤ k → f k ≡ 0) → sequence f i n ++ replicate j 0 ≡ sequence f i (n + j)
+unfolding sequence
+zeros-past f i zero zero none = refl
+zeros-past f i zero (suc j) none =
+    let all : zero + suc j ≡ suc j = omega arith in
+    let later = zeros-past f (suc i) zero j (λ k h. none k (omega arith)) in
+    rw (all, none i (omega arith)) (ap (λ (l : List ℕ). 0 ∷ l) (rw zero-add at later))
+zeros-past f i (suc n) j none =
+    let all : suc n + j ≡ suc (n + j) = omega arith in
+    rw all (ap (λ (l : List ℕ). f i ∷ l) (zeros-past f (suc i) n j (λ k h. none k (omega arith))))
+
+pub fill-cleared : {end : ℕ} {f : ℕ → ℕ} {before cells : List ℕ} {n : ℕ} → Filled end f before n → n ≤ 254 → cells ≡ padTo 256 (take (n + 2) before) → ((k : ℕ) → n ≤ k → f k ≡ 0) → cells ≡ end ∷ end ∷ sequence f 0 254
+unfolding padTo
+fill-cleared {end} {f} {n} filled few e none =
+    let all : n + (256 - suc (suc n)) ≡ 254 = omega arith in
+    e ∙ rw (filled .front, sequence-length f 0 n) (ap (λ (l : List ℕ). end ∷ end ∷ l) (zeros-past f 0 n (256 - suc (suc n)) (λ k h. none k (omega arith)) ∙ rw all refl))
 
 -- ---------------------------------------------------------------------------
 -- The array of positions
@@ -51,8 +65,8 @@ module _ (v : ℕ) (rs : List Record) where
   front-position k (suc zero) h = refl
   front-position k (suc (suc n)) h = sequence-at (λ i. recordAt rs i .position) 0 k n 0 (omega arith) ∙ rw zero-add
 
-  pub filled-placed : {cells : List ℕ} {k : ℕ} → Filled v (λ i. recordAt rs i .position) cells k → Placed v rs cells k
-  filled-placed {cells} {k} filled =
+  pub filled-positioned : {cells : List ℕ} {k : ℕ} → Filled v (λ i. recordAt rs i .position) cells k → Positioned v rs cells k
+  filled-positioned {cells} {k} filled =
       record { at = λ n h. sym (getD-take (k + 2) cells n 0 h) ∙ ap (λ (l : List ℕ). getD l n 0) (filled .front) ∙ front-position k n h }
 
 -- ---------------------------------------------------------------------------

@@ -18,25 +18,25 @@ use Rattle.decoding.proofs.Padding.{pad-none, pad-next}
 -- ---------------------------------------------------------------------------
 -- What is found of the first variables, and what is left
 
--- Twenty places, of which the first `count` hold what is found of a whole list, so that `rest` is left
-pub record Found (whole rest places : List ℕ) (count : ℕ) : Type 0 where
+-- Twenty cells, of which the first `count` hold what is found of a whole list, so that `rest` is left
+pub record Found (whole rest cells : List ℕ) (count : ℕ) : Type 0 where
   found : List ℕ
-  held : places ≡ padTo 20 found
+  held : cells ≡ padTo 20 found
   counted : count ≡ length found
   split : found ++ rest ≡ whole
 
 pub found-none : (whole rest : List ℕ) → rest ≡ whole → Found whole rest (replicate 20 0) 0
 found-none whole rest e = record { found = []; held = sym (pad-none 20); counted = refl; split = e }
 
-module _ {whole rest places : List ℕ} {count : ℕ} (h : Found whole rest places count) where
+module _ {whole rest cells : List ℕ} {count : ℕ} (h : Found whole rest cells count) where
   -- at the end all are found
-  pub found-all : rest ≡ [] → (places ≡ padTo 20 whole) × (count ≡ length whole)
+  pub found-all : rest ≡ [] → (cells ≡ padTo 20 whole) × (count ≡ length whole)
   found-all e =
       let all = rw (e, append-nil) at (h .split) in
       (rw (← all) (h .held), rw (← all) (h .counted))
 
   -- nothing is found
-  pub found-same : {rest′ : List ℕ} → rest ≡ rest′ → Found whole rest′ places count
+  pub found-same : {rest′ : List ℕ} → rest ≡ rest′ → Found whole rest′ cells count
   found-same e = record { found = h .found; held = h .held; counted = h .counted; split = rw e at (h .split) }
 
   module _ (most : length whole ≤ 20) (x : ℕ) (rest′ : List ℕ) (e : rest ≡ x ∷ rest′) where
@@ -48,7 +48,7 @@ module _ {whole rest places : List ℕ} {count : ℕ} (h : Found whole rest plac
     found-room = omega (arith, h .counted, simp length-append at (ap length one))
 
     -- one is found
-    pub found-next : {n y : ℕ} {new : List ℕ} → y ≡ x → new ≡ set places count y → n ≡ count + 1 → Found whole rest′ new n
+    pub found-next : {n y : ℕ} {new : List ℕ} → y ≡ x → new ≡ set cells count y → n ≡ count + 1 → Found whole rest′ new n
     found-next {n} {y} {new} same g k =
         record {
           found = h .found ++ (x ∷ []);
@@ -94,8 +94,8 @@ module _ (s : List ℕ) where
 -- ---------------------------------------------------------------------------
 -- The positions of the choices from position p on
 
-abbrev pub placesFrom : (file : List ℕ) → (p : ℕ) → List ℕ
-placesFrom s p = positionsFrom p (drop p (tableOf s .variables))
+abbrev pub choicePositionsFrom : (file : List ℕ) → (p : ℕ) → List ℕ
+choicePositionsFrom s p = positionsFrom p (drop p (tableOf s .variables))
 
 -- as many as there are choices
 pub positions-length : (x : ℕ) (vs : List Variable) → length (positionsFrom x vs) ≡ choiceCount vs
@@ -110,28 +110,28 @@ by-kind p choice vs = refl
 by-kind p (chance a b) vs = refl
 
 module _ (s : List ℕ) where
-  pub places-start : placesFrom s 0 ≡ choicePositions (tableOf s .variables)
+  pub choice-positions-start : choicePositionsFrom s 0 ≡ choicePositions (tableOf s .variables)
   unfolding choicePositions
-  places-start = refl
+  choice-positions-start = refl
 
-  pub places-length : length (choicePositions (tableOf s .variables)) ≡ choiceCount (tableOf s .variables)
+  pub choice-positions-length : length (choicePositions (tableOf s .variables)) ≡ choiceCount (tableOf s .variables)
   unfolding choicePositions
-  places-length = positions-length 0 (tableOf s .variables)
+  choice-positions-length = positions-length 0 (tableOf s .variables)
 
   module _ (p : ℕ) where
-    pub places-end : variableCount s ≤ p → placesFrom s p ≡ []
+    pub choice-positions-end : variableCount s ≤ p → choicePositionsFrom s p ≡ []
     unfolding positionsFrom
-    places-end h = rw (drop-of-length-le (tableOf s .variables) {i = p} (omega (arith, variables-length s))) refl
+    choice-positions-end h = rw (drop-of-length-le (tableOf s .variables) {i = p} (omega (arith, variables-length s))) refl
 
-    places-cons : p < variableCount s → placesFrom s p ≡ cond (isChoice (variableOf (wordAt s (1 + p)))) (p ∷ placesFrom s (p + 1)) (placesFrom s (p + 1))
-    places-cons h =
+    choice-positions-cons : p < variableCount s → choicePositionsFrom s p ≡ cond (isChoice (variableOf (wordAt s (1 + p)))) (p ∷ choicePositionsFrom s (p + 1)) (choicePositionsFrom s (p + 1))
+    choice-positions-cons h =
         rw (drop-cons (tableOf s .variables) p (chance 0 1) (omega (arith, variables-length s)), variable-at s p h, add-one p) (by-kind p _ _)
 
-    pub places-choice : p < variableCount s → isChoice (variableOf (wordAt s (1 + p))) ≡ true → placesFrom s p ≡ p ∷ placesFrom s (p + 1)
-    places-choice h e = places-cons h ∙ rw e refl
+    pub choice-positions-choice : p < variableCount s → isChoice (variableOf (wordAt s (1 + p))) ≡ true → choicePositionsFrom s p ≡ p ∷ choicePositionsFrom s (p + 1)
+    choice-positions-choice h e = choice-positions-cons h ∙ rw e refl
 
-    pub places-chance : p < variableCount s → isChoice (variableOf (wordAt s (1 + p))) ≡ false → placesFrom s p ≡ placesFrom s (p + 1)
-    places-chance h e = places-cons h ∙ rw e refl
+    pub choice-positions-chance : p < variableCount s → isChoice (variableOf (wordAt s (1 + p))) ≡ false → choicePositionsFrom s p ≡ choicePositionsFrom s (p + 1)
+    choice-positions-chance h e = choice-positions-cons h ∙ rw e refl
 
 -- the kits at position p, by the word's number, the word and its R
 pub kits-is : (s : List ℕ) (p : ℕ) {i w r k : ℕ} → i ≡ 1 + p → w ≡ wordAt s i → r ≡ fieldR w → k ≡ r + 1 → k ≡ fieldR (wordAt s (1 + p)) + 1

@@ -56,7 +56,7 @@ module _ (s : List ℕ) where
   unfolding tableOf
   kits-length = words-length (wordAt s) 1 (variableCount s)
 
-  -- of twenty places, the first hold them
+  -- of twenty cells, the first hold them
   pub kits-first : (n : ℕ) → n ≡ choiceCount (tableOf s .variables) → take n (padTo 20 (tableOf s .kits)) ≡ tableOf s .kits
   unfolding padTo
   kits-first n e = take-at (tableOf s .kits) _ n (kits-length ∙ sym e)

@@ -93,12 +93,12 @@ choice-from x (chance a b ∷ vs) i h =
     (suc (rest .0), omega (arith, rest .1), record { within = omega (arith, at .within); is = at .is; number = at .number })
 
 -- the place of choice i
-pub place-in : {d : Decoded} → Held d → (i : ℕ) → i < d .choices → ChoiceAt (tableIn d .variables) i (getD (d .places) i 0)
+pub choice-position-in : {d : Decoded} → Held d → (i : ℕ) → i < d .choices → ChoiceAt (tableIn d .variables) i (getD (d .«choice_positions») i 0)
 unfolding choicePositions
-place-in {d} h i l =
+choice-position-in {d} h i l =
     let vs = tableIn d .variables in
     let at = choice-from 0 vs i (omega (arith, h .choices)) in
-    let here : getD (d .places) i 0 ≡ at .0 = ap (λ (cells : List ℕ). getD cells i 0) (h .places) ∙ pad-at 20 (positionsFrom 0 vs) i (omega (arith, positions-length 0 vs, h .choices)) ∙ at .1 ∙ zero-add (at .0) in
+    let here : getD (d .«choice_positions») i 0 ≡ at .0 = ap (λ (cells : List ℕ). getD cells i 0) (h .choicePositions) ∙ pad-at 20 (positionsFrom 0 vs) i (omega (arith, positions-length 0 vs, h .choices)) ∙ at .1 ∙ zero-add (at .0) in
     rw here (at .2)
 
 -- ---------------------------------------------------------------------------
@@ -111,7 +111,7 @@ pub record Parts (s : List ℕ) (d : Decoded) : Type 0 where
   pub choices : d .choices ≡ choiceCount (tableOf s .variables)
   pub scaled : d .scale ≡ scale (tableOf s)
   pub words : d .words ≡ padTo 64 (sequence (wordAt s) 1 (variableCount s))
-  pub places : d .places ≡ padTo 20 (choicePositions (tableOf s .variables))
+  pub choicePositions : d .«choice_positions» ≡ padTo 20 (choicePositions (tableOf s .variables))
   pub kits : d .kits ≡ padTo 20 (tableOf s .kits)
   pub positions : d .positions ≡ column (variableCount s) (λ (r : Record). r .position) (tableOf s .records)
   pub high : d .high ≡ column 0 (λ (r : Record). r .hi) (tableOf s .records)
@@ -162,7 +162,7 @@ module _ {s : List ℕ} {d : Decoded} (p : Parts s d) (few : recordCount s ≤ 2
         choices = rw stands (p .choices);
         scaled = rw stands (p .scaled);
         words = rw (p .words, p .variables, pad-take 64 (sequence (wordAt s) 1 (variableCount s)) (variableCount s) (sym (sequence-length (wordAt s) 1 (variableCount s)))) refl;
-        places = rw stands (p .places);
+        choicePositions = rw stands (p .choicePositions);
         kits = rw stands (p .kits);
         positions = rw (stands, p .variables) (p .positions);
         high = rw stands (p .high);

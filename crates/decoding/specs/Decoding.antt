@@ -6,9 +6,9 @@ use lib.ListN.{length, getD, take, replicate}
 use Rattle.diagram.specs.Table.{Variable, choice, chance, Record, Root, Table, sequence, variableOf, choiceCount, scaleOf, scale}
 use Rattle.diagram.specs.Validity.{Formed, BoundedShares, Monotone}
 use Rattle.decoding.specs.declared.table.Decoded.{Decoded}
-use Rattle.decoding.specs.Nodes.{column}
+use Rattle.decoding.specs.Nodes.{positionColumn, highColumn, lowColumn}
 
--- A list in an array of so many places: the places after its end are 0
+-- A list in an array of so many cells: those after its end are 0
 unfoldable pub padTo : (width : ℕ) → List ℕ → List ℕ
 padTo n xs = xs ++ replicate (n - length xs) 0
 
@@ -63,16 +63,16 @@ tableIn d =
       roots = rootsIn (d .nodes) (d .rewards) (d .roots);
     }
 
--- What a decoded table has beside: the number of choices, B and the choices' positions, the ends' cells, and zeros in the places that are not used
+-- What a decoded table has beside: the number of choices, B and the choices' positions, the ends' cells, and zeros in the cells that are not used
 pub record Held (d : Decoded) : Type 0 where
   pub choices : d .choices ≡ choiceCount (tableIn d .variables)
   pub scaled : d .scale ≡ scale (tableIn d)
   pub words : d .words ≡ padTo 64 (take (d .variables) (d .words))
-  pub places : d .places ≡ padTo 20 (choicePositions (tableIn d .variables))
+  pub choicePositions : d .«choice_positions» ≡ padTo 20 (choicePositions (tableIn d .variables))
   pub kits : d .kits ≡ padTo 20 (tableIn d .kits)
-  pub positions : d .positions ≡ column (d .variables) (λ (r : Record). r .position) (tableIn d .records)
-  pub high : d .high ≡ column 0 (λ (r : Record). r .hi) (tableIn d .records)
-  pub low : d .low ≡ column 0 (λ (r : Record). r .lo) (tableIn d .records)
+  pub positions : d .positions ≡ positionColumn (d .variables) (tableIn d .records)
+  pub high : d .high ≡ highColumn (tableIn d .records)
+  pub low : d .low ≡ lowColumn (tableIn d .records)
   pub nodes : d .nodes ≡ padTo 16 (rootNodes (tableIn d .roots))
   pub rewards : d .rewards ≡ padTo 16 (rootRewards (tableIn d .roots))
 
@@ -109,7 +109,7 @@ emptyTable =
       choices = 0;
       scale = 0;
       words = replicate 64 0;
-      places = replicate 20 0;
+      «choice_positions» = replicate 20 0;
       kits = replicate 20 0;
       positions = replicate 256 0;
       high = replicate 256 0;

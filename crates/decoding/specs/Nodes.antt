@@ -11,13 +11,23 @@ use Rattle.diagram.specs.Checks.{headingFault, recordFault, positionOf}
 unfoldable pub column : ℕ → (Record → ℕ) → List Record → List ℕ
 column end part rs = end ∷ end ∷ sequence (λ k. part (recordAt rs k)) 0 254
 
+-- The positions of the nodes of a table of v variables, and their high and their low children
+abbrev pub positionColumn : (v : ℕ) → List Record → List ℕ
+positionColumn v rs = column v (λ (r : Record). r .position) rs
+
+abbrev pub highColumn : List Record → List ℕ
+highColumn rs = column 0 (λ (r : Record). r .hi) rs
+
+abbrev pub lowColumn : List Record → List ℕ
+lowColumn rs = column 0 (λ (r : Record). r .lo) rs
+
 -- An array has `end` for the two ends, and one part of the first k records
 pub record Filled (end : ℕ) (part : ℕ → ℕ) (cells : List ℕ) (k : ℕ) : Type 0 where
   pub size : length cells ≡ 256
   pub front : take (k + 2) cells ≡ end ∷ end ∷ sequence part 0 k
 
 -- The array has the positions of the two ends and of the first k records
-pub record Placed (v : ℕ) (rs : List Record) (ps : List ℕ) (k : ℕ) : Type 0 where
+pub record Positioned (v : ℕ) (rs : List Record) (ps : List ℕ) (k : ℕ) : Type 0 where
   pub at : (n : ℕ) → n < k + 2 → getD ps n 0 ≡ positionOf v rs n
 
 -- A file whose heading and records are right, as the checks 12 and 17 find them

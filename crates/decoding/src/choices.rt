@@ -1,16 +1,16 @@
 // The choices of a table by number: the position and the kits of each.
 use crate::heading::variable_count;
 use crate::variables::is_choice;
-use diagram::Position;
-use diagram::field_r;
-use diagram::word_at;
+use terms::Position;
+use terms::field_r;
+use terms::word_at;
 ghost use mathlib.Core.Path.{_≡_};
 ghost use Prim.Native.Nat.{_+_, _≤_};
 ghost use Rattle.diagram.specs.Words.{wordAt, fieldR};
 ghost use Rattle.diagram.specs.Table.{tableOf, choiceCount};
 ghost use Rattle.decoding.specs.Decoding.{padTo, choicePositions};
 
-// How many choices there are, and by number the position and the kits of each; the places after the last choice are 0.
+// How many choices there are, and by number the position and the kits of each; the cells after the last choice are 0.
 pub struct Choices {
     pub count: usize,
     pub positions: [u8; 20],

@@ -1,8 +1,8 @@
 // The numbers of a heading.
-use diagram::field_p;
-use diagram::field_q;
-use diagram::field_r;
-use diagram::word_at;
+use terms::field_p;
+use terms::field_q;
+use terms::field_r;
+use terms::word_at;
 ghost use mathlib.Core.Path.{_≡_};
 ghost use Prim.Native.Nat.{_<_};
 ghost use Rattle.diagram.specs.Table.{variableCount, recordCount, rootCount};

@@ -1,18 +1,19 @@
 // The records of a table in arrays by node number, one for each part of a record.
 use crate::heading::record_count;
 use crate::heading::variable_count;
-use diagram::MOST_RECORDS;
-use diagram::Node;
-use diagram::Position;
-use diagram::field_p;
-use diagram::field_q;
-use diagram::field_r;
-use diagram::word_at;
+use terms::MOST_RECORDS;
+use terms::Node;
+use terms::Position;
+use terms::field_p;
+use terms::field_q;
+use terms::field_r;
+use terms::word_at;
 ghost use mathlib.Core.Path.{_≡_};
-ghost use Prim.Native.Nat.{ℕ, _+_, _≤_, _<_};
-ghost use lib.ListN.{length, getD, set};
-ghost use Rattle.diagram.specs.Table.{Record, tableOf, variableCount};
-ghost use Rattle.decoding.specs.Nodes.{column, Filled, Shaped};
+ghost use Prim.Native.Nat.{_+_, _≤_, _<_};
+ghost use lib.ListN.{length, getD, set, take};
+ghost use Rattle.diagram.specs.Table.{tableOf, variableCount};
+ghost use Rattle.decoding.specs.Nodes.{positionColumn, highColumn, lowColumn, Shaped};
+ghost use Rattle.decoding.specs.Decoding.{padTo};
 
 // How many records an array by node number has room for: as many as a table may have.
 const ROOM: usize = MOST_RECORDS as usize;
@@ -27,9 +28,9 @@ pub fn decode_records(
 )
     requires { ⌜ Shaped (now file) ⌝ }
     requires sizes { ⌜ (length (now positions) ≡ 256) × (length (now high) ≡ 256) × (length (now low) ≡ 256) ⌝ }
-    ensures positions { λ _. ⌜ now (positions .exit) ≡ column (variableCount (now (file .entry))) (λ (r : Record). r .position) (tableOf (now (file .entry)) .records) ⌝ }
-    ensures high { λ _. ⌜ now (high .exit) ≡ column 0 (λ (r : Record). r .hi) (tableOf (now (file .entry)) .records) ⌝ }
-    ensures low { λ _. ⌜ now (low .exit) ≡ column 0 (λ (r : Record). r .lo) (tableOf (now (file .entry)) .records) ⌝ }
+    ensures positions { λ _. ⌜ now (positions .exit) ≡ positionColumn (variableCount (now (file .entry))) (tableOf (now (file .entry)) .records) ⌝ }
+    ensures high { λ _. ⌜ now (high .exit) ≡ highColumn (tableOf (now (file .entry)) .records) ⌝ }
+    ensures low { λ _. ⌜ now (low .exit) ≡ lowColumn (tableOf (now (file .entry)) .records) ⌝ }
 {
     let n = record_count(file);
     let v = variable_count(file);
@@ -49,11 +50,10 @@ pub fn decode_records(
     clear(low, n);
 }
 
-// Writes zeros to the cells of the records from n on, of which there are none: an array that holds a part of the first n records
-// then holds it of all that it has room for.
+// Writes zeros to the cells of the records from n on, of which there are none.
 fn clear(cells: &mut [u8; 256], n: usize)
     requires { ⌜ (n ≤ 254) × (length (now cells) ≡ 256) ⌝ }
-    ensures { λ _. ⌜ ((end : ℕ) (part : ℕ → ℕ) → Filled end part (now (cells .entry)) n → ((k : ℕ) → n ≤ k → part k ≡ 0) → Filled end part (now (cells .exit)) 254) ⌝ }
+    ensures { λ _. ⌜ now (cells .exit) ≡ padTo 256 (take (n + 2) (now (cells .entry))) ⌝ }
 {
     let mut k = n;
     while k < ROOM {

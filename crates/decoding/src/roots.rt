@@ -2,10 +2,10 @@
 use crate::heading::record_count;
 use crate::heading::root_word_count;
 use crate::heading::variable_count;
-use diagram::Node;
-use diagram::field_q;
-use diagram::field_r;
-use diagram::word_at;
+use terms::Node;
+use terms::field_q;
+use terms::field_r;
+use terms::word_at;
 ghost use mathlib.Core.Path.{_≡_};
 ghost use mathlib.Core.Option.{none};
 ghost use Prim.Native.Nat.{_<_, _≤_};
@@ -20,7 +20,7 @@ pub struct Root {
     pub reward: u64,
 }
 
-// How many roots there are, and by number the node and the reward of each; the places after the last root are 0.
+// How many roots there are, and by number the node and the reward of each; the cells after the last root are 0.
 pub struct Roots {
     pub count: usize,
     pub nodes: [u8; 16],
@@ -67,7 +67,8 @@ pub fn root_count(file: &[u8]) -> usize
 // A root: that of a root word, or the last record with reward 1 where there is none. The checks 12 and 26 have passed.
 pub fn root_at(file: &[u8], i: usize) -> Root
     requires { ⌜ (headingFault (now file) ≡ none) × (rootFault (now file) ≡ none) × (i < length (tableOf (now file) .roots)) ⌝ }
-    ensures { λ r. ⌜ (r .node .0 ≡ rootAt (tableOf (now (file .entry)) .roots) i .node) × (r .reward ≡ rootAt (tableOf (now (file .entry)) .roots) i .reward) ⌝ }
+    ensures node { λ r. ⌜ r .node .0 ≡ rootAt (tableOf (now (file .entry)) .roots) i .node ⌝ }
+    ensures reward { λ r. ⌜ r .reward ≡ rootAt (tableOf (now (file .entry)) .roots) i .reward ⌝ }
 {
     let n = record_count(file);
     if root_word_count(file) == 0 {

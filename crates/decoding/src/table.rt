@@ -15,7 +15,7 @@ ghost use Rattle.decoding.specs.Nodes.{Shaped};
 ghost use Rattle.decoding.specs.Decoding.{tableIn, Held, emptyTable};
 
 // A table by value: V, N, the number of choices and B; by position the variables' words; by choice number its position and kits; by
-// node number its position and its two children, the ends first; the number of roots, and by root its node and reward. Places that
+// node number its position and its two children, the ends first; the number of roots, and by root its node and reward. Cells that
 // are not used are 0.
 pub struct Decoded {
     pub variables: u8,
@@ -23,7 +23,7 @@ pub struct Decoded {
     pub choices: usize,
     pub scale: u64,
     pub words: [u32; 64],
-    pub places: [u8; 20],
+    pub choice_positions: [u8; 20],
     pub kits: [u16; 20],
     pub positions: [u8; 256],
     pub high: [u8; 256],
@@ -45,7 +45,7 @@ pub fn decode(file: &[u8], scale: u64) -> Decoded
     let mut low = [0u8; 256];
     decode_records(file, &mut positions, &mut high, &mut low);
     let choices = choices_of(file);
-    let places = choices.positions;
+    let choice_positions = choices.positions;
     let kits = choices.kits;
     let entries = roots_of(file);
     let nodes = entries.nodes;
@@ -57,7 +57,7 @@ pub fn decode(file: &[u8], scale: u64) -> Decoded
         choices: choices.count,
         scale,
         words,
-        places,
+        choice_positions,
         kits,
         positions,
         high,
@@ -78,7 +78,7 @@ pub fn empty() -> Decoded
         choices: 0,
         scale: 0,
         words: [0u32; 64],
-        places: [0u8; 20],
+        choice_positions: [0u8; 20],
         kits: [0u16; 20],
         positions: [0u8; 256],
         high: [0u8; 256],

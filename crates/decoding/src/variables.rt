@@ -1,8 +1,8 @@
 // The variables' words, and their kind.
 use crate::heading::variable_count;
-use diagram::Position;
-use diagram::kind;
-use diagram::word_at;
+use terms::Position;
+use terms::kind;
+use terms::word_at;
 ghost use mathlib.Core.Path.{_≡_};
 ghost use Prim.Native.Nat.{_+_, _<_};
 ghost use lib.ListN.{getD};
@@ -26,7 +26,7 @@ pub fn is_choice_at(words: &[u32; 64], at: Position) -> bool
     kind(words[p]) == 2
 }
 
-// The variables' words by position; the places after the last variable are 0.
+// The variables' words by position; the cells after the last variable are 0.
 pub fn words_of(file: &[u8]) -> [u32; 64]
     ensures { λ r. ⌜ r ≡ padTo 64 (sequence (wordAt (now (file .entry))) 1 (variableCount (now (file .entry)))) ⌝ }
 {

@@ -1,16 +1,16 @@
 // The five services for programs in other languages: functions over numbers and byte slices. A result is 0 where the request
 // is answered, and else the refusal's number, with its place written. What is not written is left as it was.
-use diagram::Refusal;
+use filtering::FilterAnswer;
+use filtering::filter;
 use reading::ReadAnswer;
 use reading::read;
 use scoring::ScoreAnswer;
 use scoring::score as score_of;
 use search::SearchAnswer;
 use search::search;
-use sweep::FilterAnswer;
 use sweep::SweepAnswer;
-use sweep::filter;
 use sweep::sweep;
+use terms::Refusal;
 ghost use mathlib.Core.Path.{_≡_};
 ghost use lib.ListN.{length};
 ghost use Rattle.diagram.specs.Services.{readOutcome, scoreOutcome, sweepOutcome, sweepBuffer, filterOutcome, filterBuffer, searchOutcome, searchBuffer};

@@ -1,6 +1,6 @@
 -- The stack of pairs of nodes: how it begins, how a pair is met, how the pair on top is expanded, and what it says at the end.
 -- Assumes nothing.
-use Prim.Native.Nat.{ℕ, zero, suc, _+_, _-_, _≤_, _<_, max}
+use Prim.Native.Nat.{ℕ, zero, suc, _+_, _-_, _*_, _≤_, _<_, max}
 use native.Mathlib.Decide.{decLt}
 use native.Mathlib.Omega.{arith}
 use mathlib.Core.Path.{_≡_, refl, sym, _∙_}
@@ -18,7 +18,7 @@ use Rattle.diagram.proofs.Every.{both, and-true-both}
 use Rattle.diagram.proofs.Implication.{implies-false-end, implies-true-end, implies-same, implies-ends}
 use Rattle.decoding.specs.declared.table.Decoded.{Decoded}
 use Rattle.decoding.specs.Decoding.{tableIn}
-use Rattle.implication.specs.Nodes.{recordsOf, endOf, Checkable, askedNode, Pairs, next, smaller, cell, AtOnce, zeros, Met, Room, pushed, Expanded, Waits, Stack}
+use Rattle.implication.specs.Nodes.{recordsOf, endOf, Checkable, askedNode, Pairs, next, smaller, cell, AtOnce, zeros, firstAt, secondAt, Met, Room, pushed, Expanded, Waits, Stack}
 use Rattle.implication.proofs.Cells.{cell-le, origin-cell, only-known, zeros-marked}
 use Rattle.implication.proofs.Pairing.{Meets, next-le, next-less, next-later, next-split, position-few, held-asked}
 
@@ -32,11 +32,11 @@ at-once v rs m n (inr (inl e)) = rw e (implies-true-end v rs m)
 at-once v rs m n (inr (inr e)) = rw e (implies-same v rs n)
 
 -- the stack with nothing on it
-pub start : {ps hs ls met firsts seconds : List ℕ} → Pairs ps hs ls → met ≡ replicate 1024 0 → length firsts ≡ 128 → length seconds ≡ 128 → Stack ps hs ls met firsts seconds 0 0 0 0 0
-start {ps} {hs} {ls} pairs none p q =
+pub start : {ps hs ls met stack : List ℕ} → Pairs ps hs ls → met ≡ replicate 1024 0 → length stack ≡ 128 → Stack ps hs ls met stack 0 0 0 0 0
+start {ps} {hs} {ls} pairs none size =
     rw none (record {
       pairs = pairs;
-      room = record { size = length-replicate {A = ℕ} 1024 0; firstsSize = p; secondsSize = q; shallow = omega arith };
+      room = record { size = length-replicate {A = ℕ} 1024 0; stackSize = size; shallow = omega arith };
       asked = origin-cell (replicate 1024 0);
       origin = origin-cell (replicate 1024 0);
       small = λ j l. absurd (omega arith);
@@ -49,41 +49,50 @@ start {ps} {hs} {ls} pairs none p q =
 -- ---------------------------------------------------------------------------
 -- A pair is met
 
--- an array of the stack after a pair is met
-pushed-length : (c : ℕ) (xs : List ℕ) (depth x : ℕ) → length (pushed c xs depth x) ≡ length xs
+-- the stack after a pair is met
+pushed-length : (c : ℕ) (stack : List ℕ) (depth m n : ℕ) → length (pushed c stack depth m n) ≡ length stack
 unfolding pushed
-pushed-length zero xs depth x = length-set xs depth x
-pushed-length (suc c) xs depth x = refl
+pushed-length zero stack depth m n = simp length-set refl
+pushed-length (suc c) stack depth m n = refl
 
-pushed-kept : (c : ℕ) (xs : List ℕ) (depth x j : ℕ) → j < depth → getD (pushed c xs depth x) j 0 ≡ getD xs j 0
+pushed-kept : (c : ℕ) (stack : List ℕ) (depth m n i : ℕ) → i < depth * 2 → getD (pushed c stack depth m n) i 0 ≡ getD stack i 0
 unfolding pushed
-pushed-kept zero xs depth x j l = getD-set-other xs depth j x 0 (λ e. omega arith)
-pushed-kept (suc c) xs depth x j l = refl
+pushed-kept zero stack depth m n i l =
+    getD-set-other (set stack (depth * 2) m) (depth * 2 + 1) i n 0 (λ e. omega arith)
+    ∙ getD-set-other stack (depth * 2) i m 0 (λ e. omega arith)
+pushed-kept (suc c) stack depth m n i l = refl
 
-pushed-top : (c : ℕ) (xs : List ℕ) (depth x : ℕ) → c < 1 → depth < length xs → getD (pushed c xs depth x) depth 0 ≡ x
+pushed-first : (c : ℕ) (stack : List ℕ) (depth m n : ℕ) → c < 1 → depth * 2 < length stack → firstAt (pushed c stack depth m n) depth ≡ m
 unfolding pushed
-pushed-top zero xs depth x f l = getD-set-same xs depth x 0 l
-pushed-top (suc c) xs depth x f l = absurd (omega arith)
+pushed-first zero stack depth m n f l =
+    getD-set-other (set stack (depth * 2) m) (depth * 2 + 1) (depth * 2) n 0 (λ e. omega arith)
+    ∙ getD-set-same stack (depth * 2) m 0 l
+pushed-first (suc c) stack depth m n f l = absurd (omega arith)
 
--- at the cell that the code has read, and the byte that it writes
-pub pushed-none : {c : ℕ} → c ≡ 1 → (xs : List ℕ) (depth x : ℕ) → xs ≡ pushed c xs depth x
+pushed-second : (c : ℕ) (stack : List ℕ) (depth m n : ℕ) → c < 1 → depth * 2 + 1 < length stack → secondAt (pushed c stack depth m n) depth ≡ n
 unfolding pushed
-pushed-none e xs depth x = rw e refl
+pushed-second zero stack depth m n f l =
+    getD-set-same (set stack (depth * 2) m) (depth * 2 + 1) n 0 (rw (length-set stack (depth * 2) m) l)
+pushed-second (suc c) stack depth m n f l = absurd (omega arith)
 
-pub pushed-one : {c : ℕ} → c ≡ 0 → (xs : List ℕ) (depth x : ℕ) {byte : ℕ} → byte ≡ x → set xs depth byte ≡ pushed c xs depth x
+-- at the cell that the code has read, and the bytes that it writes
+pub pushed-none : {c : ℕ} → c ≡ 1 → (stack : List ℕ) (depth m n : ℕ) → stack ≡ pushed c stack depth m n
 unfolding pushed
-pushed-one e xs depth x is = rw (e, is) refl
+pushed-none e stack depth m n = rw e refl
+
+pub pushed-one : {c : ℕ} → c ≡ 0 → (stack : List ℕ) (depth m n : ℕ) {first second : ℕ} → first ≡ m → second ≡ n → set (set stack (depth * 2) first) (depth * 2 + 1) second ≡ pushed c stack depth m n
+unfolding pushed
+pushed-one e stack depth m n is is′ = rw (e, is, is′) refl
 
 -- the arrays before and after the pair m, n is met
-pub record Meeting (met firsts seconds : List ℕ) (depth m n : ℕ) (met′ firsts′ seconds′ : List ℕ) (depth′ : ℕ) : Type 0 where
+pub record Meeting (met stack : List ℕ) (depth m n : ℕ) (met′ stack′ : List ℕ) (depth′ : ℕ) : Type 0 where
   pub m-small : m < 256
   pub n-small : n < 256
   pub end : depth′ ≡ depth + (1 - cell met m n)
   pub cells : Met met met′ m n
-  pub ones : firsts′ ≡ pushed (cell met m n) firsts depth m
-  pub twos : seconds′ ≡ pushed (cell met m n) seconds depth n
+  pub pushes : stack′ ≡ pushed (cell met m n) stack depth m n
 
-module _ {ps hs ls met firsts seconds met′ firsts′ seconds′ : List ℕ} {c d x y depth depth′ m n : ℕ} (h : Stack ps hs ls met firsts seconds c d x y depth) (g : Meeting met firsts seconds depth m n met′ firsts′ seconds′ depth′) where
+module _ {ps hs ls met stack met′ stack′ : List ℕ} {c d x y depth depth′ m n : ℕ} (h : Stack ps hs ls met stack c d x y depth) (g : Meeting met stack depth m n met′ stack′ depth′) where
   -- what is still to be met and what waits are as many as before
   met-left : zeros met′ + depth′ ≡ zeros met + depth
   met-left =
@@ -98,26 +107,26 @@ module _ {ps hs ls met firsts seconds met′ firsts′ seconds′ : List ℕ} {c
   here = g .cells .here
 
   -- the stack is as it was, and m, n stands on it if it is new
-  first-kept : (j : ℕ) → j < depth → getD firsts′ j 0 ≡ getD firsts j 0
-  first-kept j l = rw (g .ones) (pushed-kept (cell met m n) firsts depth m j l)
+  first-kept : (j : ℕ) → j < depth → firstAt stack′ j ≡ firstAt stack j
+  first-kept j l = rw (g .pushes) (pushed-kept (cell met m n) stack depth m n (j * 2) (omega arith))
 
-  second-kept : (j : ℕ) → j < depth → getD seconds′ j 0 ≡ getD seconds j 0
-  second-kept j l = rw (g .twos) (pushed-kept (cell met m n) seconds depth n j l)
+  second-kept : (j : ℕ) → j < depth → secondAt stack′ j ≡ secondAt stack j
+  second-kept j l = rw (g .pushes) (pushed-kept (cell met m n) stack depth m n (j * 2 + 1) (omega arith))
 
-  first-new : cell met m n < 1 → getD firsts′ depth 0 ≡ m
+  first-new : cell met m n < 1 → firstAt stack′ depth ≡ m
   first-new f =
       let shallow = h .room .shallow in
-      let size = h .room .firstsSize in
-      rw (g .ones) (pushed-top (cell met m n) firsts depth m f (omega arith))
+      let size = h .room .stackSize in
+      rw (g .pushes) (pushed-first (cell met m n) stack depth m n f (omega arith))
 
-  second-new : cell met m n < 1 → getD seconds′ depth 0 ≡ n
+  second-new : cell met m n < 1 → secondAt stack′ depth ≡ n
   second-new f =
       let shallow = h .room .shallow in
-      let size = h .room .secondsSize in
-      rw (g .twos) (pushed-top (cell met m n) seconds depth n f (omega arith))
+      let size = h .room .stackSize in
+      rw (g .pushes) (pushed-second (cell met m n) stack depth m n f (omega arith))
 
   -- what holds of the pairs on the stack, and of m, n if it is new, holds of those on the stack now
-  each-slot : (P : ℕ → ℕ → ℕ → Type 0) → ((j : ℕ) → j < depth → P j (getD firsts j 0) (getD seconds j 0)) → (cell met m n < 1 → P depth m n) → (j : ℕ) → j < depth′ → P j (getD firsts′ j 0) (getD seconds′ j 0)
+  each-slot : (P : ℕ → ℕ → ℕ → Type 0) → ((j : ℕ) → j < depth → P j (firstAt stack j) (secondAt stack j)) → (cell met m n < 1 → P depth m n) → (j : ℕ) → j < depth′ → P j (firstAt stack′ j) (secondAt stack′ j)
   each-slot P old new j below =
       by-cases (decLt j depth)
       (λ l. rw (first-kept j l, second-kept j l) (old j l))
@@ -127,7 +136,7 @@ module _ {ps hs ls met firsts seconds met′ firsts′ seconds′ : List ℕ} {c
       let f : cell met m n < 1 = omega arith in
       rw (e, first-new f, second-new f) (new f))
 
-  carried : (a b : ℕ) → AtOnce a b ⊎ (Expanded ps hs ls met a b ⊎ (Waits firsts seconds depth a b ⊎ ((a ≡ x) × (b ≡ y)))) → AtOnce a b ⊎ (Expanded ps hs ls met′ a b ⊎ (Waits firsts′ seconds′ depth′ a b ⊎ ((a ≡ x) × (b ≡ y))))
+  carried : (a b : ℕ) → AtOnce a b ⊎ (Expanded ps hs ls met a b ⊎ (Waits stack depth a b ⊎ ((a ≡ x) × (b ≡ y)))) → AtOnce a b ⊎ (Expanded ps hs ls met′ a b ⊎ (Waits stack′ depth′ a b ⊎ ((a ≡ x) × (b ≡ y))))
   carried a b (inl e) = inl e
   carried a b (inr (inl e)) = inr (inl (record { high = kept _ _ (e .high); low = kept _ _ (e .low) }))
   carried a b (inr (inr (inl e))) =
@@ -146,7 +155,7 @@ module _ {ps hs ls met firsts seconds met′ firsts′ seconds′ : List ℕ} {c
   fresh a b la lb f e =
       ⊎-elim (λ same. same) (λ same. absurd (omega (arith, same))) (g .cells .others a b la lb)
 
-  fresh-waits : (a b : ℕ) → cell met a b < 1 → (a ≡ m) × (b ≡ n) → Waits firsts′ seconds′ depth′ a b
+  fresh-waits : (a b : ℕ) → cell met a b < 1 → (a ≡ m) × (b ≡ n) → Waits stack′ depth′ a b
   fresh-waits a b f (p, q) =
       let end = g .end in
       let f′ = rw (p, q) at f in
@@ -163,17 +172,16 @@ module _ {ps hs ls met firsts seconds met′ firsts′ seconds′ : List ℕ} {c
         (λ f. omega (arith, late f, position-few (h .pairs) m (g .m-small)))
         (λ f. omega arith)
 
-    roomy : Room met′ firsts′ seconds′ depth′
+    roomy : Room met′ stack′ depth′
     roomy =
         record {
           size = g .cells .size ∙ h .room .size;
-          firstsSize = rw (g .ones) (pushed-length (cell met m n) firsts depth m ∙ h .room .firstsSize);
-          secondsSize = rw (g .twos) (pushed-length (cell met m n) seconds depth n ∙ h .room .secondsSize);
+          stackSize = rw (g .pushes) (pushed-length (cell met m n) stack depth m n ∙ h .room .stackSize);
           shallow = still-shallow;
         }
 
     -- the stack with one more pair met, for a pair p, q that has been met: m, n and the pair that was asked before imply if it does
-    meet : (p q : ℕ) → cell met′ p q ≡ 1 → (implies (endOf ps) (recordsOf ps hs ls) p q ≡ true → (implies (endOf ps) (recordsOf ps hs ls) c d ≡ true) × (implies (endOf ps) (recordsOf ps hs ls) m n ≡ true)) → Stack ps hs ls met′ firsts′ seconds′ p q x y depth′
+    meet : (p q : ℕ) → cell met′ p q ≡ 1 → (implies (endOf ps) (recordsOf ps hs ls) p q ≡ true → (implies (endOf ps) (recordsOf ps hs ls) c d ≡ true) × (implies (endOf ps) (recordsOf ps hs ls) m n ≡ true)) → Stack ps hs ls met′ stack′ p q x y depth′
     meet p q asked sound =
         record {
           pairs = h .pairs;
@@ -229,13 +237,13 @@ module _ {ps hs ls : List ℕ} (pairs : Pairs ps hs ls) where
         (λ l. rw (ep, eq) (next-later (record { pairs = pairs; m-small = lm; n-small = ln; met = λ i j. l (omega arith) }) b))
 
 -- a stack that is not empty has a pair on top
-pub from-top : {ps hs ls met firsts seconds : List ℕ} {a b m n depth : ℕ} → 0 < depth → Stack ps hs ls met firsts seconds a b m n depth → Stack ps hs ls met firsts seconds a b m n (suc (depth - 1))
+pub from-top : {ps hs ls met stack : List ℕ} {a b m n depth : ℕ} → 0 < depth → Stack ps hs ls met stack a b m n depth → Stack ps hs ls met stack a b m n (suc (depth - 1))
 from-top {depth} some h =
     let e : suc (depth - 1) ≡ depth = omega arith in
     rw e h
 
 -- the pair on top
-module _ {ps hs ls met firsts seconds : List ℕ} {a b top m n : ℕ} (h : Stack ps hs ls met firsts seconds a b 0 0 (suc top)) (first : m ≡ getD firsts top 0) (second : n ≡ getD seconds top 0) where
+module _ {ps hs ls met stack : List ℕ} {a b top m n : ℕ} (h : Stack ps hs ls met stack a b 0 0 (suc top)) (first : m ≡ firstAt stack top) (second : n ≡ secondAt stack top) where
   on-stack : top < suc top
   on-stack = omega arith
 
@@ -257,15 +265,14 @@ module _ {ps hs ls met firsts seconds : List ℕ} {a b top m n : ℕ} (h : Stack
       implied-next (h .pairs) m n m-within n-within (rw (first, second) e)
 
   -- it is taken off
-  pub take : Stack ps hs ls met firsts seconds a b m n top
+  pub take : Stack ps hs ls met stack a b m n top
   take =
       let shallow = h .room .shallow in
       record {
         pairs = h .pairs;
         room = record {
           size = h .room .size;
-          firstsSize = h .room .firstsSize;
-          secondsSize = h .room .secondsSize;
+          stackSize = h .room .stackSize;
           shallow = omega arith;
         };
         asked = h .asked;
@@ -277,7 +284,7 @@ module _ {ps hs ls met firsts seconds : List ℕ} {a b top m n : ℕ} (h : Stack
         right = h .right;
       }
     where
-      off : (p q : ℕ) → AtOnce p q ⊎ (Expanded ps hs ls met p q ⊎ (Waits firsts seconds (suc top) p q ⊎ ((p ≡ 0) × (q ≡ 0)))) → AtOnce p q ⊎ (Expanded ps hs ls met p q ⊎ (Waits firsts seconds top p q ⊎ ((p ≡ m) × (q ≡ n))))
+      off : (p q : ℕ) → AtOnce p q ⊎ (Expanded ps hs ls met p q ⊎ (Waits stack (suc top) p q ⊎ ((p ≡ 0) × (q ≡ 0)))) → AtOnce p q ⊎ (Expanded ps hs ls met p q ⊎ (Waits stack top p q ⊎ ((p ≡ m) × (q ≡ n))))
       off p q (inl e) = inl e
       off p q (inr (inl e)) = inr (inl e)
       off p q (inr (inr (inl w))) = inr (inr (by-cases (decLt (w .slot) top)
@@ -289,8 +296,8 @@ module _ {ps hs ls met firsts seconds : List ℕ} {a b top m n : ℕ} (h : Stack
       off p q (inr (inr (inr e))) = inl (inl (e .0))
 
 -- a pair that was taken off is expanded where both pairs that it leads to have been met
-expanded : {ps hs ls met firsts seconds : List ℕ} {a b m n depth : ℕ} → Stack ps hs ls met firsts seconds a b m n depth → Expanded ps hs ls met m n → Stack ps hs ls met firsts seconds a b 0 0 depth
-expanded {ps} {hs} {ls} {met} {firsts} {seconds} {m} {n} {depth} h on =
+expanded : {ps hs ls met stack : List ℕ} {a b m n depth : ℕ} → Stack ps hs ls met stack a b m n depth → Expanded ps hs ls met m n → Stack ps hs ls met stack a b 0 0 depth
+expanded {ps} {hs} {ls} {met} {stack} {m} {n} {depth} h on =
     record {
       pairs = h .pairs;
       room = h .room;
@@ -303,25 +310,25 @@ expanded {ps} {hs} {ls} {met} {firsts} {seconds} {m} {n} {depth} h on =
       right = h .right;
     }
   where
-    past : (p q : ℕ) → AtOnce p q ⊎ (Expanded ps hs ls met p q ⊎ (Waits firsts seconds depth p q ⊎ ((p ≡ m) × (q ≡ n)))) → AtOnce p q ⊎ (Expanded ps hs ls met p q ⊎ (Waits firsts seconds depth p q ⊎ ((p ≡ 0) × (q ≡ 0))))
+    past : (p q : ℕ) → AtOnce p q ⊎ (Expanded ps hs ls met p q ⊎ (Waits stack depth p q ⊎ ((p ≡ m) × (q ≡ n)))) → AtOnce p q ⊎ (Expanded ps hs ls met p q ⊎ (Waits stack depth p q ⊎ ((p ≡ 0) × (q ≡ 0))))
     past p q (inl e) = inl e
     past p q (inr (inl e)) = inr (inl e)
     past p q (inr (inr (inl w))) = inr (inr (inl w))
     past p q (inr (inr (inr (i, j)))) = inr (inl (rw (i, j) on))
 
 -- the pair on top is expanded: first the pair that it leads to by high children is met, then the one by low children
-module _ {ps hs ls met firsts seconds met₁ firsts₁ seconds₁ : List ℕ} {a b top depth₁ m n high-m high-n : ℕ} (h : Stack ps hs ls met firsts seconds a b 0 0 (suc top)) (first : m ≡ getD firsts top 0) (second : n ≡ getD seconds top 0) (hm : high-m ≡ next ps hs m n) (hn : high-n ≡ next ps hs n m) (g : Meeting met firsts seconds top high-m high-n met₁ firsts₁ seconds₁ depth₁) where
-  off-top : Stack ps hs ls met firsts seconds a b m n top
+module _ {ps hs ls met stack met₁ stack₁ : List ℕ} {a b top depth₁ m n high-m high-n : ℕ} (h : Stack ps hs ls met stack a b 0 0 (suc top)) (first : m ≡ firstAt stack top) (second : n ≡ secondAt stack top) (hm : high-m ≡ next ps hs m n) (hn : high-n ≡ next ps hs n m) (g : Meeting met stack top high-m high-n met₁ stack₁ depth₁) where
+  off-top : Stack ps hs ls met stack a b m n top
   off-top = take h first second
 
-  pub expand-high : Stack ps hs ls met₁ firsts₁ seconds₁ a b m n depth₁
+  pub expand-high : Stack ps hs ls met₁ stack₁ a b m n depth₁
   expand-high =
       meet off-top g
       (λ new. omega (arith, top-late h first second, new-later (h .pairs) m n (m-within h first second) (n-within h first second) met true (h .origin) hm hn new))
       a b (kept off-top g a b (h .asked)) (λ t. (t, rw (hm, hn) (sound h first second t .0)))
 
-  module _ {met₂ firsts₂ seconds₂ : List ℕ} {depth₂ low-m low-n : ℕ} (lm : low-m ≡ next ps ls m n) (ln : low-n ≡ next ps ls n m) (g₂ : Meeting met₁ firsts₁ seconds₁ depth₁ low-m low-n met₂ firsts₂ seconds₂ depth₂) where
-    pub expand-both : Stack ps hs ls met₂ firsts₂ seconds₂ a b 0 0 depth₂
+  module _ {met₂ stack₂ : List ℕ} {depth₂ low-m low-n : ℕ} (lm : low-m ≡ next ps ls m n) (ln : low-n ≡ next ps ls n m) (g₂ : Meeting met₁ stack₁ depth₁ low-m low-n met₂ stack₂ depth₂) where
+    pub expand-both : Stack ps hs ls met₂ stack₂ a b 0 0 depth₂
     expand-both =
         let end = g .end in
         let q = meet expand-high g₂
@@ -338,7 +345,7 @@ module _ {ps hs ls met firsts seconds met₁ firsts₁ seconds₁ : List ℕ} {a
 -- ---------------------------------------------------------------------------
 -- The end
 
-module _ {ps hs ls met firsts seconds : List ℕ} {a b : ℕ} (h : Stack ps hs ls met firsts seconds a b 0 0 0) where
+module _ {ps hs ls met stack : List ℕ} {a b : ℕ} (h : Stack ps hs ls met stack a b 0 0 0) where
   -- the pair of true and false does not imply
   refuted : cell met 1 0 ≡ 1 → implies (endOf ps) (recordsOf ps hs ls) a b ≡ false
   refuted e =
@@ -353,7 +360,7 @@ module _ {ps hs ls met firsts seconds : List ℕ} {a b : ℕ} (h : Stack ps hs l
     ends-imply (suc (suc m)) n l k e = absurd (omega arith)
 
     -- a pair met implies where all pairs met of a smaller sum do
-    by-smaller : (m n : ℕ) → m < 256 → n < 256 → cell met m n ≡ 1 → ((p q : ℕ) → p + q < m + n → p < 256 → q < 256 → cell met p q ≡ 1 → implies (endOf ps) (recordsOf ps hs ls) p q ≡ true) → AtOnce m n ⊎ (Expanded ps hs ls met m n ⊎ (Waits firsts seconds 0 m n ⊎ ((m ≡ 0) × (n ≡ 0)))) → implies (endOf ps) (recordsOf ps hs ls) m n ≡ true
+    by-smaller : (m n : ℕ) → m < 256 → n < 256 → cell met m n ≡ 1 → ((p q : ℕ) → p + q < m + n → p < 256 → q < 256 → cell met p q ≡ 1 → implies (endOf ps) (recordsOf ps hs ls) p q ≡ true) → AtOnce m n ⊎ (Expanded ps hs ls met m n ⊎ (Waits stack 0 m n ⊎ ((m ≡ 0) × (n ≡ 0)))) → implies (endOf ps) (recordsOf ps hs ls) m n ≡ true
     by-smaller m n lm ln e smaller (inl k) = at-once _ _ m n k
     by-smaller m n lm ln e smaller (inr (inl k)) =
         by-cases (decLt (max m n) 2)
@@ -374,7 +381,7 @@ module _ {ps hs ls met firsts seconds : List ℕ} {a b : ℕ} (h : Stack ps hs l
     all-imply m n = settled (suc (m + n)) m n (omega arith)
 
     -- so all pairs met imply with no more being asked
-    idle : Stack ps hs ls met firsts seconds 0 0 0 0 0
+    idle : Stack ps hs ls met stack 0 0 0 0 0
     idle =
         record {
           pairs = h .pairs;
@@ -392,16 +399,16 @@ module _ {ps hs ls met firsts seconds : List ℕ} {a b : ℕ} (h : Stack ps hs l
 -- A record
 
 -- the pair of a record's children is met
-pub ask : {ps hs ls met firsts seconds met′ firsts′ seconds′ : List ℕ} {depth′ m n : ℕ} → Stack ps hs ls met firsts seconds 0 0 0 0 0 → Meeting met firsts seconds 0 m n met′ firsts′ seconds′ depth′ → Stack ps hs ls met′ firsts′ seconds′ m n 0 0 depth′
+pub ask : {ps hs ls met stack met′ stack′ : List ℕ} {depth′ m n : ℕ} → Stack ps hs ls met stack 0 0 0 0 0 → Meeting met stack 0 m n met′ stack′ depth′ → Stack ps hs ls met′ stack′ m n 0 0 depth′
 ask {m} {n} h g = meet h g (λ _. omega arith) m n (here h g) (λ t. (implies-false-end _ _ 0, t))
 
 -- what passing on all pairs that record k leads to gives: the pair of true and false is met where the record is not monotone, and
 -- else all pairs met imply
-pub record Drained (d : Decoded) (met firsts seconds : List ℕ) (k : ℕ) : Type 0 where
+pub record Drained (d : Decoded) (met stack : List ℕ) (k : ℕ) : Type 0 where
   pub fault : cell met 1 0 ≡ 1 → false ≡ isMonotoneAt (tableIn d) k
-  pub passes : (cell met 1 0 ≡ 1 → ⊥) → (true ≡ isMonotoneAt (tableIn d) k) × Stack (d .positions) (d .high) (d .low) met firsts seconds 0 0 0 0 0
+  pub passes : (cell met 1 0 ≡ 1 → ⊥) → (true ≡ isMonotoneAt (tableIn d) k) × Stack (d .positions) (d .high) (d .low) met stack 0 0 0 0 0
 
-pub drained : {d : Decoded} → Checkable d → {k lo hi : ℕ} {met firsts seconds : List ℕ} → k < d .records → lo ≡ askedNode (d .words) (d .positions) (d .low) k → hi ≡ askedNode (d .words) (d .positions) (d .high) k → lo < 256 → hi < 256 → Stack (d .positions) (d .high) (d .low) met firsts seconds lo hi 0 0 0 → Drained d met firsts seconds k
+pub drained : {d : Decoded} → Checkable d → {k lo hi : ℕ} {met stack : List ℕ} → k < d .records → lo ≡ askedNode (d .words) (d .positions) (d .low) k → hi ≡ askedNode (d .words) (d .positions) (d .high) k → lo < 256 → hi < 256 → Stack (d .positions) (d .high) (d .low) met stack lo hi 0 0 0 → Drained d met stack k
 drained held {k} l elo ehi small small′ h =
     record {
       fault = λ e. held-asked held k l elo ehi (sym (refuted h e));

@@ -92,17 +92,23 @@ pub record Met (met met′ : List ℕ) (m n : ℕ) : Type 0 where
   pub kept : (p q : ℕ) → cell met p q ≡ 1 → cell met′ p q ≡ 1
   pub others : (p q : ℕ) → p < 256 → q < 256 → ((p ≡ m) × (q ≡ n)) ⊎ (cell met′ p q ≡ cell met p q)
 
+-- The two nodes of the pair of the stack that has j others under it
+abbrev pub firstAt : (stack : List ℕ) → (j : ℕ) → ℕ
+firstAt stack j = getD stack (j * 2) 0
+
+abbrev pub secondAt : (stack : List ℕ) → (j : ℕ) → ℕ
+secondAt stack j = getD stack (j * 2 + 1) 0
+
 -- The stack has at most 62 pairs, so that there is room for one more
-pub record Room (met firsts seconds : List ℕ) (depth : ℕ) : Type 0 where
+pub record Room (met stack : List ℕ) (depth : ℕ) : Type 0 where
   pub size : length met ≡ 1024
-  pub firstsSize : length firsts ≡ 128
-  pub secondsSize : length seconds ≡ 128
+  pub stackSize : length stack ≡ 128
   pub shallow : depth ≤ 62
 
--- An array of the stack after a pair is met: x is written on top where the pair's cell was 0
-unfoldable pub pushed : (cell : ℕ) → List ℕ → (depth x : ℕ) → List ℕ
-pushed zero xs depth x = set xs depth x
-pushed (suc _) xs depth x = xs
+-- The stack after the pair m, n is met: it is written on top where its cell was 0
+unfoldable pub pushed : (cell : ℕ) → (stack : List ℕ) → (depth m n : ℕ) → List ℕ
+pushed zero stack depth m n = set (set stack (depth * 2) m) (depth * 2 + 1) n
+pushed (suc _) stack depth m n = stack
 
 -- Both pairs that m, n leads to have been met
 pub record Expanded (ps hs ls met : List ℕ) (m n : ℕ) : Type 0 where
@@ -110,21 +116,30 @@ pub record Expanded (ps hs ls met : List ℕ) (m n : ℕ) : Type 0 where
   pub low : cell met (next ps ls m n) (next ps ls n m) ≡ 1
 
 -- The pair m, n stands on the stack
-pub record Waits (firsts seconds : List ℕ) (depth m n : ℕ) : Type 0 where
+pub record Waits (stack : List ℕ) (depth m n : ℕ) : Type 0 where
   pub slot : ℕ
   pub below : slot < depth
-  pub first : getD firsts slot 0 ≡ m
-  pub second : getD seconds slot 0 ≡ n
+  pub first : firstAt stack slot ≡ m
+  pub second : secondAt stack slot ≡ n
 
 -- The stack of the pairs met: those on it are still to be expanded, as is the pair m, n that has been taken off last (0, 0 where
 -- there is none), a pair with j others under it stands at position j - 1 or later, and all pairs met imply if the pair a, b does
-pub record Stack (ps hs ls met firsts seconds : List ℕ) (a b m n depth : ℕ) : Type 0 where
+pub record Stack (ps hs ls met stack : List ℕ) (a b m n depth : ℕ) : Type 0 where
   pub pairs : Pairs ps hs ls
-  pub room : Room met firsts seconds depth
+  pub room : Room met stack depth
   pub asked : cell met a b ≡ 1
   pub origin : cell met 0 0 ≡ 1
-  pub small : (j : ℕ) → j < depth → (getD firsts j 0 < 256) × (getD seconds j 0 < 256)
-  pub waiting : (j : ℕ) → j < depth → cell met (getD firsts j 0) (getD seconds j 0) ≡ 1
-  pub deep : (j : ℕ) → j < depth → j ≤ smaller ps (getD firsts j 0) (getD seconds j 0) + 1
-  pub traced : (p q : ℕ) → p < 256 → q < 256 → cell met p q ≡ 1 → AtOnce p q ⊎ (Expanded ps hs ls met p q ⊎ (Waits firsts seconds depth p q ⊎ ((p ≡ m) × (q ≡ n))))
+  pub small : (j : ℕ) → j < depth → (firstAt stack j < 256) × (secondAt stack j < 256)
+  pub waiting : (j : ℕ) → j < depth → cell met (firstAt stack j) (secondAt stack j) ≡ 1
+  pub deep : (j : ℕ) → j < depth → j ≤ smaller ps (firstAt stack j) (secondAt stack j) + 1
+  pub traced : (p q : ℕ) → p < 256 → q < 256 → cell met p q ≡ 1 → AtOnce p q ⊎ (Expanded ps hs ls met p q ⊎ (Waits stack depth p q ⊎ ((p ≡ m) × (q ≡ n))))
   pub right : implies (endOf ps) (recordsOf ps hs ls) a b ≡ true → (p q : ℕ) → p < 256 → q < 256 → cell met p q ≡ 1 → implies (endOf ps) (recordsOf ps hs ls) p q ≡ true
+
+-- The stack is that of some pair a, b
+abbrev pub Started : (ps hs ls met stack : List ℕ) → (depth : ℕ) → Type 0
+Started ps hs ls met stack depth = (a : ℕ) × (b : ℕ) × Stack ps hs ls met stack a b 0 0 depth
+
+-- The second stack is that of the same pair a, b as the first, whichever that is
+abbrev pub Kept : (ps hs ls met stack : List ℕ) → (depth : ℕ) → (met′ stack′ : List ℕ) → (depth′ : ℕ) → Type 0
+Kept ps hs ls met stack depth met′ stack′ depth′ =
+    (a b : ℕ) → Stack ps hs ls met stack a b 0 0 depth → Stack ps hs ls met′ stack′ a b 0 0 depth′

@@ -2,21 +2,21 @@
 // A pair of nodes implies where both pairs that it leads to at the smaller position of the two do. So each choice record's pair
 // is put on a stack, the pair on top is taken off and the two that it leads to are put on, unless they are known to imply at once
 // or have been met, until the stack is empty, and a record is at fault where the pair of true and false is met. A pair leads to
-// pairs at later positions, so that the stack has at most two pairs more than the table has variables. The pairs met are bits of
-// an array, 256 for each first node.
+// pairs at later positions, so that the stack has at most two pairs more than the table has variables. Each takes two
+// cells of the stack, the first node's and the second's. The pairs met are bits of an array, 256 for each first node.
 use decoding::Decoded;
 use decoding::child_of;
 use decoding::is_choice_at;
 use decoding::position_of;
-use diagram::Node;
-use diagram::Position;
 use steps::Fault;
+use terms::Node;
+use terms::Position;
 ghost use mathlib.Core.Path.{_≡_};
-ghost use Prim.Native.Nat.{ℕ, suc, _+_, _-_, _<_};
+ghost use Prim.Native.Nat.{suc, _+_, _-_, _<_};
 ghost use lib.ListN.{length, getD};
 ghost use lib.Dec.{eqb};
 ghost use Rattle.decoding.specs.Decoding.{tableIn};
-ghost use Rattle.implication.specs.Nodes.{Checkable, monotoneFaultIn, askedNode, next, isKnown, cell, zeros, Met, Room, pushed, Stack};
+ghost use Rattle.implication.specs.Nodes.{Checkable, monotoneFaultIn, askedNode, next, isKnown, cell, zeros, Met, Room, pushed, Stack, Started, Kept};
 ghost use Rattle.steps.specs.Steps.{faultOf};
 
 // Check 18, of a decoded table whose records are formed, as check 17 leaves them.
@@ -25,19 +25,13 @@ pub fn monotone_fault(t: Decoded) -> Fault
     ensures { λ r. ⌜ r ≡ faultOf (monotoneFaultIn (tableIn t)) ⌝ }
 {
     let mut met = [0u64; 1024];
-    let mut firsts = [0u8; 128];
-    let mut seconds = [0u8; 128];
-    first_fault(t, &mut met, &mut firsts, &mut seconds)
+    let mut stack = [0u8; 128];
+    first_fault(t, &mut met, &mut stack)
 }
 
 // The first record at fault. Nothing has been met, and the stack is empty.
-fn first_fault(
-    t: Decoded,
-    met: &mut [u64; 1024],
-    firsts: &mut [u8; 128],
-    seconds: &mut [u8; 128],
-) -> Fault
-    requires { ⌜ Checkable t × Stack (t .positions) (t .high) (t .low) (now met) (now firsts) (now seconds) 0 0 0 0 0 ⌝ }
+fn first_fault(t: Decoded, met: &mut [u64; 1024], stack: &mut [u8; 128]) -> Fault
+    requires { ⌜ Checkable t × Stack (t .positions) (t .high) (t .low) (now met) (now stack) 0 0 0 0 0 ⌝ }
     ensures { λ r. ⌜ r ≡ faultOf (monotoneFaultIn (tableIn t)) ⌝ }
 {
     let end = Position::new(t.variables);
@@ -46,8 +40,8 @@ fn first_fault(
     while k < n {
         let low = asked_node(&t.words, &t.positions, &t.low, k);
         let high = asked_node(&t.words, &t.positions, &t.high, k);
-        let depth = meet(met, firsts, seconds, 0, low, high);
-        drain(met, firsts, seconds, &t.positions, &t.high, &t.low, depth);
+        let depth = meet(met, stack, 0, low, high);
+        drain(met, stack, &t.positions, &t.high, &t.low, depth);
         if is_met(met, Node::new(1), Node::new(0)) {
             return Fault::At(end.word() + k);
         }
@@ -78,45 +72,44 @@ fn asked_node<'a>(
 // Expands every pair of the stack, and those that are met on the way, until the stack is empty.
 fn drain<'a>(
     met: &mut [u64; 1024],
-    firsts: &mut [u8; 128],
-    seconds: &mut [u8; 128],
+    stack: &mut [u8; 128],
     positions: &'a [u8; 256],
     high: &'a [u8; 256],
     low: &'a [u8; 256],
     start: usize,
 )
-    requires { ⌜ ((a : ℕ) × (b : ℕ) × Stack (now positions) (now high) (now low) (now met) (now firsts) (now seconds) a b 0 0 start) ⌝ }
-    ensures { λ _. ⌜ ((a b : ℕ) → Stack (now (positions .entry)) (now (high .entry)) (now (low .entry)) (now (met .entry)) (now (firsts .entry)) (now (seconds .entry)) a b 0 0 start → Stack (now (positions .entry)) (now (high .entry)) (now (low .entry)) (now (met .exit)) (now (firsts .exit)) (now (seconds .exit)) a b 0 0 0) ⌝ }
+    requires { ⌜ Started (now positions) (now high) (now low) (now met) (now stack) start ⌝ }
+    ensures { λ _. ⌜ Kept (now (positions .entry)) (now (high .entry)) (now (low .entry)) (now (met .entry)) (now (stack .entry)) start (now (met .exit)) (now (stack .exit)) 0 ⌝ }
 {
     let mut depth = start;
     while depth > 0 {
         let top = depth - 1;
-        depth = expand(met, firsts, seconds, positions, high, low, top);
+        depth = expand(met, stack, positions, high, low, top);
     }
 }
 
 // Takes the pair at top off and meets the two pairs that it leads to. Answers the new depth.
 fn expand(
     met: &mut [u64; 1024],
-    firsts: &mut [u8; 128],
-    seconds: &mut [u8; 128],
+    stack: &mut [u8; 128],
     positions: &[u8; 256],
     high: &[u8; 256],
     low: &[u8; 256],
     top: usize,
 ) -> usize
-    requires { ⌜ ((a : ℕ) × (b : ℕ) × Stack (now positions) (now high) (now low) (now met) (now firsts) (now seconds) a b 0 0 (suc top)) ⌝ }
-    ensures stack { λ r. ⌜ ((a b : ℕ) → Stack (now (positions .entry)) (now (high .entry)) (now (low .entry)) (now (met .entry)) (now (firsts .entry)) (now (seconds .entry)) a b 0 0 (suc top) → Stack (now (positions .entry)) (now (high .entry)) (now (low .entry)) (now (met .exit)) (now (firsts .exit)) (now (seconds .exit)) a b 0 0 r) ⌝ }
+    requires { ⌜ Started (now positions) (now high) (now low) (now met) (now stack) (suc top) ⌝ }
+    ensures stack { λ r. ⌜ Kept (now (positions .entry)) (now (high .entry)) (now (low .entry)) (now (met .entry)) (now (stack .entry)) (suc top) (now (met .exit)) (now (stack .exit)) r ⌝ }
     ensures left { λ r. ⌜ zeros (now (met .exit)) + r ≡ zeros (now (met .entry)) + top ⌝ }
 {
-    let m = Node::new(firsts[top]);
-    let n = Node::new(seconds[top]);
+    let i = top * 2;
+    let m = Node::new(stack[i]);
+    let n = Node::new(stack[i + 1]);
     let high_m = step(positions, high, m, n);
     let high_n = step(positions, high, n, m);
     let low_m = step(positions, low, m, n);
     let low_n = step(positions, low, n, m);
-    let depth = meet(met, firsts, seconds, top, high_m, high_n);
-    meet(met, firsts, seconds, depth, low_m, low_n)
+    let depth = meet(met, stack, top, high_m, high_n);
+    meet(met, stack, depth, low_m, low_n)
 }
 
 // Where m of the pair m, n leads to: its child, unless n stands at a smaller position. The child is read in any case, so that
@@ -131,25 +124,18 @@ fn step(positions: &[u8; 256], children: &[u8; 256], m: Node, n: Node) -> Node
 }
 
 // Puts a pair on top of the stack, unless it is known to imply or has been met before. Answers the new depth.
-fn meet(
-    met: &mut [u64; 1024],
-    firsts: &mut [u8; 128],
-    seconds: &mut [u8; 128],
-    depth: usize,
-    m: Node,
-    n: Node,
-) -> usize
-    requires { ⌜ Room (now met) (now firsts) (now seconds) depth ⌝ }
+fn meet(met: &mut [u64; 1024], stack: &mut [u8; 128], depth: usize, m: Node, n: Node) -> usize
+    requires { ⌜ Room (now met) (now stack) depth ⌝ }
     ensures depth { λ r. ⌜ r ≡ depth + (1 - cell (now (met .entry)) (m .0) (n .0)) ⌝ }
     ensures met { λ _. ⌜ Met (now (met .entry)) (now (met .exit)) (m .0) (n .0) ⌝ }
-    ensures firsts { λ _. ⌜ now (firsts .exit) ≡ pushed (cell (now (met .entry)) (m .0) (n .0)) (now (firsts .entry)) depth (m .0) ⌝ }
-    ensures seconds { λ _. ⌜ now (seconds .exit) ≡ pushed (cell (now (met .entry)) (m .0) (n .0)) (now (seconds .entry)) depth (n .0) ⌝ }
+    ensures stack { λ _. ⌜ now (stack .exit) ≡ pushed (cell (now (met .entry)) (m .0) (n .0)) (now (stack .entry)) depth (m .0) (n .0) ⌝ }
 {
     if is_met(met, m, n) {
         return depth;
     }
-    firsts[depth] = m.byte();
-    seconds[depth] = n.byte();
+    let i = depth * 2;
+    stack[i] = m.byte();
+    stack[i + 1] = n.byte();
     mark(met, m, n);
     depth + 1
 }

@@ -1,3 +1,2 @@
 -- Laws of what a search holds.
-pub mod Written
 pub mod Keeping

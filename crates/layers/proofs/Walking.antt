@@ -66,6 +66,10 @@ module _ (l : Layers) {n i at end : ℕ} (cells : List ℕ) (sized : Sized l n) 
   unfolding inflow
   node-flow e = rw (← begins, ← ends) e
 
+-- a rank made of a number has the number's own start
+pub start-at : (starts : List ℕ) {r i x : ℕ} → r ≡ i → x ≡ getD starts r 0 → x ≡ getD starts i 0
+start-at starts same e = rw (← same) e
+
 -- ---------------------------------------------------------------------------
 -- Nodes that hand on by both arcs
 
@@ -74,12 +78,12 @@ module _ (l : Layers) (from : ℕ) (cells₀ : List ℕ) where
   unfolding crossNodes
   cross-none = rw (sub-self from) refl
 
-  pub cross-next : {i w : ℕ} {cells cells′ : List ℕ} → from ≤ i → cells ≡ crossNodes l from (i - from) cells₀ → w ≡ inflow l cells i → cells′ ≡ put cells i w w → cells′ ≡ crossNodes l from (i + 1 - from) cells₀
+  pub cross-next : {i w : ℕ} {cells cells′ : List ℕ} → from ≤ i → cells ≡ crossNodes l from (i - from) cells₀ → w ≡ inflow l cells i → {r : ℕ} → r ≡ i → cells′ ≡ put cells r w w → cells′ ≡ crossNodes l from (i + 1 - from) cells₀
   unfolding crossNodes crossNode
-  cross-next {i} h e ew e′ =
+  cross-next {i} h e ew er e′ =
       let one : i + 1 - from ≡ suc (i - from) = omega arith in
       let here : from + (i - from) ≡ i = omega arith in
-      rw (one, here, ← e, ← ew) e′
+      rw (one, here, ← e, ← ew, ← er) e′
 
   pub cross-fits : {i to : ℕ} {cells : List ℕ} → from ≤ i → i < to → CrossFits l from to cells₀ → cells ≡ crossNodes l from (i - from) cells₀ → inflow l cells i ≤ 2 ^ 56
   cross-fits {i} h less fits e =
@@ -99,12 +103,12 @@ module _ (l : Layers) (from : ℕ) (cells₀ : List ℕ) where
   unfolding ownNodes
   own-none = rw (sub-self from) refl
 
-  pub own-next : {i w : ℕ} {cells cells′ : List ℕ} → from ≤ i → cells ≡ ownNodes l from (i - from) cells₀ → w ≡ inflow l cells i → cells′ ≡ put cells i w 0 → cells′ ≡ ownNodes l from (i + 1 - from) cells₀
+  pub own-next : {i w : ℕ} {cells cells′ : List ℕ} → from ≤ i → cells ≡ ownNodes l from (i - from) cells₀ → w ≡ inflow l cells i → {r : ℕ} → r ≡ i → cells′ ≡ put cells r w 0 → cells′ ≡ ownNodes l from (i + 1 - from) cells₀
   unfolding ownNodes ownNode
-  own-next {i} h e ew e′ =
+  own-next {i} h e ew er e′ =
       let one : i + 1 - from ≡ suc (i - from) = omega arith in
       let here : from + (i - from) ≡ i = omega arith in
-      rw (one, here, ← e, ← ew) e′
+      rw (one, here, ← e, ← ew, ← er) e′
 
   pub own-fits : {i to : ℕ} {cells : List ℕ} → from ≤ i → i < to → OwnFits l from to cells₀ → cells ≡ ownNodes l from (i - from) cells₀ → inflow l cells i ≤ 2 ^ 56
   own-fits {i} h less fits e =
@@ -156,12 +160,12 @@ module _ (from : ℕ) (cells₀ : List ℕ) where
   unfolding leaveNodes
   leave-none = rw (sub-self from) refl
 
-  pub leave-next : {i w : ℕ} {cells cells′ : List ℕ} → from ≤ i → cells ≡ leaveNodes from (i - from) cells₀ → w ≡ getD cells (i + 2) 0 → cells′ ≡ put cells i 0 w → cells′ ≡ leaveNodes from (i + 1 - from) cells₀
+  pub leave-next : {i w : ℕ} {cells cells′ : List ℕ} → from ≤ i → cells ≡ leaveNodes from (i - from) cells₀ → w ≡ getD cells (i + 2) 0 → {r : ℕ} → r ≡ i → cells′ ≡ put cells r 0 w → cells′ ≡ leaveNodes from (i + 1 - from) cells₀
   unfolding leaveNodes leaveNode
-  leave-next {i} h e ew e′ =
+  leave-next {i} h e ew er e′ =
       let one : i + 1 - from ≡ suc (i - from) = omega arith in
       let here : from + (i - from) ≡ i = omega arith in
-      rw (one, here, ← e, ← ew) e′
+      rw (one, here, ← e, ← ew, ← er) e′
 
   pub leave-all : {i to : ℕ} {cells : List ℕ} → i ≤ to → to ≤ i → cells ≡ leaveNodes from (i - from) cells₀ → cells ≡ leaveNodes from (to - from) cells₀
   leave-all {i} {to} h k e =

@@ -1,12 +1,12 @@
--- A table laid out for a search, and what a visit does with it. The nodes stand in order of position; a node's place in this order is its rank.
+-- A table laid out for a search, and what a visit does with it. The nodes stand in order of position; a node's number in this order is its rank.
 use Prim.Native.Nat.{ℕ, zero, suc, _+_, _-_, _*_, _≤_, _<_, _^_}
 use mathlib.Core.Path.{_≡_}
 use mathlib.Core.List.{List}
 use lib.ListN.{length, getD, set}
+use Rattle.layers.specs.declared.ranks.Layer.{Layer}
 use Rattle.layers.specs.Cells.{highCell, lowCell}
-use Rattle.layers.specs.Lines.{firstRank, ownRank, nextRank}
 
--- By rank: where the arcs into the node begin in the list of all arcs, one node after the other in order. By place in this list: the cell that the arc
+-- By rank: where the arcs into the node begin in the list of all arcs, one node after the other in order. By index in this list: the cell that the arc
 -- starts from, and its weight.
 pub record Layers : Type 0 where
   pub starts : List ℕ
@@ -23,12 +23,12 @@ pub record Sized (l : Layers) (n : ℕ) : Type 0 where
   pub within : (i : ℕ) → i ≤ n → getD (l .starts) i 0 ≤ 1040
   pub sources : (j : ℕ) → getD (l .sources) j 0 < 512
 
--- What n arcs from place j on bring: each the number in its cell times its weight
+-- What n arcs from index j on bring: each the number in its cell times its weight
 unfoldable pub flowSum : (sources arcs cells : List ℕ) → (j n : ℕ) → ℕ
 flowSum ss ws cells j zero = 0
 flowSum ss ws cells j (suc n) = flowSum ss ws cells j n + getD cells (getD ss (j + n) 0) 0 * getD ws (j + n) 0
 
--- The arcs from one place of their list to another are pairs, one or more, within their arrays, and what they bring fits
+-- The arcs from one index of their list to another are pairs, one or more, within their arrays, and what they bring fits
 abbrev pub FlowFits : (sources arcs cells : List ℕ) → (from to : ℕ) → Type 0
 FlowFits ss ws cells from to =
     ((m : ℕ) × (to ≡ from + suc m + suc m))
@@ -70,23 +70,11 @@ CrossFits l from to cells = (i : ℕ) → from + i < to → inflow l (crossNodes
 abbrev pub OwnFits : Layers → (from to : ℕ) → (cells : List ℕ) → Type 0
 OwnFits l from to cells = (i : ℕ) → from + i < to → inflow l (ownNodes l from i cells) (from + i) ≤ 2 ^ 56
 
--- The nodes from one rank to another may be crossed
-abbrev pub Crossable : Layers → (from to : ℕ) → (cells : List ℕ) → Type 0
-Crossable l from to cells =
-    (from ≤ to) × (length cells ≡ 512) × ((n : ℕ) × Sized l n × (to ≤ n) × CrossFits l from to cells)
-
 -- What leaving the line of n nodes from rank i on loses: at each node what comes to it, times its loss
 unfoldable pub dropSum : Layers → (losses : List ℕ) → (i n : ℕ) → (cells : List ℕ) → ℕ
 dropSum l losses i zero cells = 0
 dropSum l losses i (suc n) cells =
     dropSum l losses i n cells + inflow l (ownNodes l i n cells) (i + n) * getD losses (i + n) 0
-
--- The nodes of an open line, from one rank to another, may be entered
-abbrev pub OwnEnterable : Layers → (losses : List ℕ) → (from to : ℕ) → (cells : List ℕ) → Type 0
-OwnEnterable l losses from to cells =
-    (from ≤ to)
-    × (length cells ≡ 512)
-    × ((n : ℕ) × Sized l n × (to ≤ n) × OwnFits l from to cells × (dropSum l losses from (to - from) cells ≤ 2 ^ 56))
 
 -- The line of the node at rank i is left: what its hi arc has handed on goes by its lo arc
 unfoldable pub leaveNode : (i : ℕ) → (cells : List ℕ) → List ℕ
@@ -96,23 +84,45 @@ unfoldable pub leaveNodes : (i n : ℕ) → (cells : List ℕ) → List ℕ
 leaveNodes i zero cells = cells
 leaveNodes i (suc n) cells = leaveNode (i + n) (leaveNodes i n cells)
 
--- The cells after the layer of the lowest of so many unsettled lines, up to the line's own nodes
-abbrev pub layerCrossed : Layers → (lines : List ℕ) → (unsettled : ℕ) → (cells : List ℕ) → List ℕ
-layerCrossed l lines n cells = crossNodes l (firstRank lines n) (ownRank lines n - firstRank lines n) cells
+-- ---------------------------------------------------------------------------
+-- The layer of an open line
 
--- The cells after the whole layer, with the line taken
-abbrev pub layerEntered : Layers → (lines : List ℕ) → (unsettled : ℕ) → (cells : List ℕ) → List ℕ
-layerEntered l lines n cells =
-    ownNodes l (ownRank lines n) (nextRank lines n - ownRank lines n) (layerCrossed l lines n cells)
+-- The cells after the layer's nodes before the line
+abbrev pub layerCrossed : Layers → Layer → (cells : List ℕ) → List ℕ
+layerCrossed l layer cells = crossNodes l (layer .first .0) (layer .own .0 - layer .first .0) cells
+
+-- The cells after the line's own nodes, with the line taken
+abbrev pub ownEntered : Layers → Layer → (cells : List ℕ) → List ℕ
+ownEntered l layer cells = ownNodes l (layer .own .0) (layer .next .0 - layer .own .0) cells
 
 -- What leaving the line loses
-abbrev pub layerDrop : Layers → (losses lines : List ℕ) → (unsettled : ℕ) → (cells : List ℕ) → ℕ
-layerDrop l losses lines n cells =
-    dropSum l losses (ownRank lines n) (nextRank lines n - ownRank lines n) (layerCrossed l lines n cells)
+abbrev pub ownDrop : Layers → (losses : List ℕ) → Layer → (cells : List ℕ) → ℕ
+ownDrop l losses layer cells = dropSum l losses (layer .own .0) (layer .next .0 - layer .own .0) cells
+
+-- The cells after the whole layer, with the line taken, and what leaving the line loses
+abbrev pub layerEntered : Layers → Layer → (cells : List ℕ) → List ℕ
+layerEntered l layer cells = ownEntered l layer (layerCrossed l layer cells)
+
+abbrev pub layerDrop : Layers → (losses : List ℕ) → Layer → (cells : List ℕ) → ℕ
+layerDrop l losses layer cells = ownDrop l losses layer (layerCrossed l layer cells)
 
 -- The cells once the line is left
-abbrev pub lineLeft : (lines : List ℕ) → (unsettled : ℕ) → (cells : List ℕ) → List ℕ
-lineLeft lines n cells = leaveNodes (ownRank lines n) (nextRank lines n - ownRank lines n) cells
+abbrev pub lineLeft : Layer → (cells : List ℕ) → List ℕ
+lineLeft layer cells = leaveNodes (layer .own .0) (layer .next .0 - layer .own .0) cells
+
+-- The nodes before the line may be crossed
+abbrev pub Crossable : Layers → Layer → (cells : List ℕ) → Type 0
+Crossable l layer cells =
+    (layer .first .0 ≤ layer .own .0)
+    × (length cells ≡ 512)
+    × ((n : ℕ) × Sized l n × (layer .own .0 ≤ n) × CrossFits l (layer .first .0) (layer .own .0) cells)
+
+-- The line's own nodes may be entered
+abbrev pub OwnEnterable : Layers → (losses : List ℕ) → Layer → (cells : List ℕ) → Type 0
+OwnEnterable l losses layer cells =
+    (layer .own .0 ≤ layer .next .0)
+    × (length cells ≡ 512)
+    × ((n : ℕ) × Sized l n × (layer .next .0 ≤ n) × OwnFits l (layer .own .0) (layer .next .0) cells × (ownDrop l losses layer cells ≤ 2 ^ 56))
 
 -- The layer of an open line: the ranks from the line before it to its own first record, and from there to the one after its last. All sums fit.
 pub record Enterable (l : Layers) (losses : List ℕ) (n from own to : ℕ) (cells : List ℕ) : Type 0 where
@@ -123,12 +133,11 @@ pub record Enterable (l : Layers) (losses : List ℕ) (n from own to : ℕ) (cel
   pub enters : OwnFits l own to (crossNodes l from (own - from) cells)
   pub drops : dropSum l losses own (to - own) (crossNodes l from (own - from) cells) ≤ 2 ^ 56
 
--- The layer of the lowest of so many unsettled lines, at most 20, may be entered
-abbrev pub LayerEnterable : Layers → (losses lines : List ℕ) → (unsettled : ℕ) → (cells : List ℕ) → Type 0
-LayerEnterable l losses lines n cells =
-    (1 ≤ n) × (n ≤ 20) × ((k : ℕ) × Enterable l losses k (firstRank lines n) (ownRank lines n) (nextRank lines n) cells)
+-- The whole layer may be entered
+abbrev pub LayerEnterable : Layers → (losses : List ℕ) → Layer → (cells : List ℕ) → Type 0
+LayerEnterable l losses layer cells =
+    ((n : ℕ) × Enterable l losses n (layer .first .0) (layer .own .0) (layer .next .0) cells)
 
 -- The line may be left
-abbrev pub LineLeavable : (lines : List ℕ) → (unsettled : ℕ) → (cells : List ℕ) → Type 0
-LineLeavable lines n cells =
-    (1 ≤ n) × (n ≤ 20) × (length cells ≡ 512) × (ownRank lines n ≤ nextRank lines n) × (nextRank lines n ≤ 254)
+abbrev pub LineLeavable : Layer → (cells : List ℕ) → Type 0
+LineLeavable layer cells = (length cells ≡ 512) × (layer .own .0 ≤ layer .next .0) × (layer .next .0 ≤ 254)

@@ -2,46 +2,28 @@
 use Prim.Native.Nat.{ℕ, _+_, _-_, _≤_, _<_}
 use mathlib.Core.Path.{_≡_}
 use mathlib.Core.List.{List}
-use lib.ListN.{length, getD, replicate}
-use Rattle.diagram.specs.Table.{Table, sequence}
-use Rattle.diagram.specs.Plans.{openTaken, upperBound}
+use lib.ListN.{length, getD}
+use Rattle.diagram.specs.Table.{Table}
+use Rattle.diagram.specs.Plans.{upperBound}
 use Rattle.decoding.specs.declared.table.Decoded.{Decoded}
 use Rattle.decoding.specs.Decoding.{tableIn}
-use Rattle.scoring.specs.declared.roots.Roots.{Roots}
-use Rattle.scoring.specs.Value.{place, value}
-use Rattle.scoring.specs.Passes.{over, RootsHeld, Marked}
-use Rattle.layers.specs.Chains.{pick, joined, placed}
+use Rattle.weighing.specs.Value.{nodePosition}
+use Rattle.ordering.specs.Chains.{joined, inBuffer, nodesAt}
 use Rattle.layers.specs.Layers.{Layers, layersOf}
-use Rattle.layers.specs.Flows.{Layered, rankSum, atSum}
-use Rattle.layers.specs.Weighed.{lossesByRank}
+use Rattle.layout.specs.Flows.{Layered, rankSum, atSum}
 use Rattle.layout.specs.declared.Layout.{Layout}
-use Rattle.layout.specs.declared.Valued.{Valued}
-
--- The arrays hold a decoded table under a plan, with its roots
-pub record Weighed (d : Decoded) (p : List ℕ) (rs : Roots) (highArcs lowArcs marks : List ℕ) : Type 0 where
-  pub marked : Marked (tableIn d) p (d .records) (d .positions) (d .high) (d .low) highArcs lowArcs marks
-  pub entering : RootsHeld (tableIn d) rs
 
 -- The nodes of a decoded table in order of position
 abbrev pub nodesInOrder : Decoded → List ℕ
-nodesInOrder d = placed (replicate 1040 0) 0 (joined (λ x. pick (d .positions) 0 x (d .records)) (length (tableIn d .variables)))
-
--- The values of the nodes under a plan with all open lines taken, by node
-abbrev pub valuesUnder : Decoded → (plan : List ℕ) → List ℕ
-valuesUnder d p = over (sequence (value (tableIn d) (openTaken p)) 0 (d .records + 2)) (replicate 256 0)
-
--- The bound of a plan, and what leaving its line loses at each node in order
-pub record Values (d : Decoded) (p : List ℕ) (lowArcs marks order : List ℕ) (r : Valued) : Type 0 where
-  pub bound : r .bound ≡ upperBound (tableIn d) p
-  pub losses : r .losses ≡ lossesByRank (d .positions) marks (d .low) lowArcs (valuesUnder d p) order (d .records) (replicate 256 0)
+nodesInOrder d = inBuffer (joined (nodesAt (d .positions) (d .records)) (length (tableIn d .variables)))
 
 -- `ends` has how many nodes of the order stand before each position: those before stand there, those from there to the next at it, and those after later
 pub record Ending (t : Table) (order ends : List ℕ) : Type 0 where
   pub rising : (x y : ℕ) → x ≤ y → y ≤ length (t .variables) → getD ends x 0 ≤ getD ends y 0
   pub within : (x : ℕ) → x ≤ length (t .variables) → getD ends x 0 ≤ length (t .records)
-  pub before : (x j : ℕ) → x ≤ length (t .variables) → j < getD ends x 0 → place t (getD order j 0) < x
-  pub here : (x j : ℕ) → x < length (t .variables) → getD ends x 0 ≤ j → j < getD ends (x + 1) 0 → place t (getD order j 0) ≡ x
-  pub after : (x j : ℕ) → x ≤ length (t .variables) → getD ends x 0 ≤ j → j < length (t .records) → x ≤ place t (getD order j 0)
+  pub before : (x j : ℕ) → x ≤ length (t .variables) → j < getD ends x 0 → nodePosition t (getD order j 0) < x
+  pub here : (x j : ℕ) → x < length (t .variables) → getD ends x 0 ≤ j → j < getD ends (x + 1) 0 → nodePosition t (getD order j 0) ≡ x
+  pub after : (x j : ℕ) → x ≤ length (t .variables) → getD ends x 0 ≤ j → j < length (t .records) → x ≤ nodePosition t (getD order j 0)
   pub sums : (x : ℕ) → x < length (t .variables) → (f : ℕ → ℕ) → rankSum (λ j. f (getD order j 0)) (getD ends x 0) (getD ends (x + 1) 0 - getD ends x 0) ≡ atSum t f x (length (t .records))
 
 -- The arrays hold table t, laid out for a search from plan p, whose bound it is

@@ -1,18 +1,12 @@
 // An opened table: a struct that refers to the handed-in bytes and copies none of them, and each service on it. A service hands
 // the bytes to the function of the same name over slices, which makes every check itself.
-mod request;
 mod table;
 
+use filtering::FilterAnswer;
 use reading::ReadAnswer;
 use reading::read;
-pub use request::open_and_filter;
-pub use request::open_and_read;
-pub use request::open_and_score;
-pub use request::open_and_search;
-pub use request::open_and_sweep;
 use scoring::ScoreAnswer;
 use search::SearchAnswer;
-use sweep::FilterAnswer;
 use sweep::SweepAnswer;
 pub use table::Opening;
 pub use table::State;
@@ -23,7 +17,8 @@ ghost use lib.ListN.{length};
 ghost use Rattle.diagram.specs.Plans.{openCount};
 ghost use Rattle.diagram.specs.Services.{readOutcome, scoreOutcome, sweepOutcome, sweepBuffer, filterOutcome, filterBuffer, searchOutcome, searchBuffer};
 ghost use Rattle.scoring.specs.Answer.{outcomeOf};
-ghost use Rattle.sweep.specs.Answer.{sweepOf, filterOf};
+ghost use Rattle.filtering.specs.Answer.{filterOf};
+ghost use Rattle.sweep.specs.Answer.{sweepOf};
 ghost use Rattle.search.specs.Answer.{searchOf, visitsOf};
 ghost use Rattle.opened.specs.Answer.{openingOf, openingFor, openedOf, tableWith};
 
@@ -94,7 +89,7 @@ pub fn filter<'a, 'p, 'o>(
     ensures answer { λ r. ⌜ filterOf r (now (out .exit)) ≡ filterOutcome (now (t .entry .bytes)) (now (plan .entry)) percent (length (now (out .entry))) ⌝ }
     ensures buffer { λ r. ⌜ now (out .exit) ≡ filterBuffer (now (t .entry .bytes)) (now (plan .entry)) percent (now (out .entry)) ⌝ }
 {
-    sweep::filter(t.bytes, plan, percent, out)
+    filtering::filter(t.bytes, plan, percent, out)
 }
 
 // The score of the first candidate and the visits, with its marks written to the buffer, or the first reason for turning the

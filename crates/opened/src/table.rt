@@ -1,5 +1,5 @@
 // An opened table, and what opening finds in its bytes.
-use diagram::Refusal;
+use terms::Refusal;
 
 // Whether the bytes are accepted as a table, or why they are turned away.
 pub enum State {

@@ -1,11 +1,12 @@
--- What is printed for a job, from what reading and the search answer, and from what the job word says. Assumes nothing.
+-- What is printed for a job, from what reading and the search answer, and from what the job word says, and the whole buffer that it is printed to. Assumes
+-- nothing.
 use Prim.Native.Nat.{ℕ, zero, suc, _-_, _/_, _≤_, min}
 use native.Mathlib.Decide.{decLt}
 use native.Mathlib.Omega.{arith}
 use mathlib.Core.Path.{_≡_, refl, ap, sym, _∙_}
 use mathlib.Core.List.{List, _∷_, _++_}
 use mathlib.Core.Logic.{by-cases}
-use lib.ListN.{length, take, drop, replicate}
+use lib.ListN.{length, take, drop, replicate, length-take, take-append-drop}
 use lib.Seq.{take-take}
 use borrow.Author.Tests.{eq-eqb, ne-eqb, le-ltb}
 use Rattle.diagram.specs.Words.{wordAt, kind, fieldR}
@@ -14,7 +15,8 @@ use Rattle.diagram.specs.Plans.{costOf, cost}
 use Rattle.diagram.specs.Checks.{placeZero, jobFault, jobChecks, searchChecks}
 use Rattle.diagram.specs.Services.{refused, Reading, reading, readOutcome, searchOutcome}
 use Rattle.diagram.specs.Printout.{refusalText, planText, searchText, jobOutcome, jobKits, programOutcome, printout}
-use Rattle.diagram.specs.declared.refusal.Refusal.{Refusal}
+use Rattle.terms.specs.declared.refusal.Refusal.{Refusal}
+use Rattle.diagram.proofs.Places.{drop-replicate}
 use Rattle.diagram.proofs.Checked.{checked-passes, checked-stops, checked-end, read-refuses}
 use Rattle.decoding.specs.Decoding.{padTo}
 use Rattle.decoding.proofs.Kits.{kits-length}
@@ -30,7 +32,7 @@ use Rattle.search.specs.declared.answer.SearchAnswer.{SearchAnswer}
 use Rattle.search.specs.declared.answer.SearchAnswer.the-variants.{Found, Refused}
 use Rattle.search.specs.Answer.{searchOf}
 use Rattle.writing.specs.Wrote.{Wrote}
-use Rattle.printout.specs.Lines.{tableText, foundText, fullText}
+use Rattle.text.specs.Lines.{tableText, foundText, fullText}
 
 -- ---------------------------------------------------------------------------
 -- The table
@@ -121,3 +123,14 @@ printed input e w = rw e at w
 pub printed-part : (input : List ℕ) {n : ℕ} → 1329 ≤ n → printout (take n input) ≡ printout input
 unfolding printout
 printed-part input {n} h = rw (take-take 1329 n input h) refl
+
+-- ---------------------------------------------------------------------------
+-- The whole buffer
+
+-- what is written from the start ends within the buffer
+pub wrote-within : {a b : List ℕ} {j : ℕ} {x : List ℕ} → Wrote a 0 b j x → j ≤ length a
+wrote-within {b = b} {j} w = omega (arith, w .count, w .size, ap length (w .text), length-take j b)
+
+-- what is written from the start of zeros is followed by zeros
+pub wrote-all : (n v : ℕ) {b : List ℕ} {j : ℕ} {x : List ℕ} → Wrote (replicate n v) 0 b j x → v ≡ 0 → b ≡ x ++ replicate (n - j) 0
+wrote-all n v {b} {j} w e = sym (take-append-drop j b) ∙ rw (w .text, w .rest, drop-replicate j n v, e) refl

@@ -1,3 +1,2 @@
--- Laws of the printout.
-pub mod Texts
+-- Laws of a job's printout.
 pub mod Jobs

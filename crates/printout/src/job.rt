@@ -1,17 +1,18 @@
 // From the bytes that the program reads to the text that it prints: a job word, then a table.
-use crate::text::put_plan;
-use crate::text::put_refusal;
 use cost::cost_of;
-use diagram::Plan;
-use diagram::field_p;
-use diagram::field_q;
-use diagram::field_r;
-use diagram::kind;
-use diagram::word_at;
 use reading::ReadAnswer;
 use reading::read_table;
 use search::SearchAnswer;
 use search::search;
+use terms::Plan;
+use terms::field_p;
+use terms::field_q;
+use terms::field_r;
+use terms::kind;
+use terms::word_at;
+use text::Numbers;
+use text::put_plan;
+use text::put_refusal;
 ghost use mathlib.Core.Path.{_≡_};
 ghost use mathlib.Core.List.{_++_};
 ghost use Prim.Native.Nat.{_-_, _≤_};
@@ -101,5 +102,12 @@ fn put_search(out: &mut [u8], file: &[u8], budget: u32, percent: u32) -> usize
     let written = &plan[..n];
     let table = read.table;
     let cost = cost_of(written, &table.kits);
-    put_plan(out, numbers, found, cost, written)
+    let shown = Numbers {
+        choices: numbers.choices,
+        scale: numbers.scale,
+        cost,
+        score: found.score,
+        visits: found.visits,
+    };
+    put_plan(out, shown, written)
 }

@@ -1,6 +1,5 @@
 // What the program `plan` prints for the bytes that it reads, as text in a buffer.
 mod job;
-mod text;
 
 pub use job::Text;
 pub use job::print;

@@ -28,7 +28,7 @@ use Rattle.implication.specs.Nodes.{monotoneFaultIn}
 use Rattle.decoding.proofs.Choosing.{variables-length}
 use Rattle.decoding.proofs.Shape.{heading-variables, heading-records, records-length, record-past, shaped-formed}
 use Rattle.implication.proofs.Pairing.{unmonotone-at, unmonotone-test, fault-of-table}
-use Rattle.reading.proofs.Counting.{above}
+use Rattle.checking.proofs.Counting.{above}
 
 -- ---------------------------------------------------------------------------
 -- The heading and the records

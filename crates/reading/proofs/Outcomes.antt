@@ -9,7 +9,7 @@ use Rattle.diagram.specs.Checks.{headingFault, choiceFault, recordFault, rootFa
 use Rattle.diagram.specs.Table.{tableOf, variableCount, recordCount, choiceCount, scale}
 use Rattle.diagram.specs.Services.{Outcome, refused, answered, checked, reading, readOutcome, Reading}
 use Rattle.diagram.proofs.Checked.{checked-passes, checked-stops, checked-end, checked-append, checked-answered, checked-refused, first, later, passed-among, Passed, read-passed, read-reading}
-use Rattle.diagram.specs.declared.refusal.Refusal.{Refusal}
+use Rattle.terms.specs.declared.refusal.Refusal.{Refusal}
 use Rattle.decoding.specs.declared.table.Decoded.{Decoded}
 use Rattle.decoding.specs.Nodes.{Shaped}
 use Rattle.decoding.specs.Decoding.{tableIn, Held, Sound, emptyTable}

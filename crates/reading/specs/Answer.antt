@@ -5,7 +5,7 @@ use mathlib.Core.List.{List, _++_}
 use Rattle.diagram.specs.Table.{tableOf}
 use Rattle.diagram.specs.Checks.{Check, headingChecks, variableChecks, scaleChecks, recordChecks, rewardChecks}
 use Rattle.diagram.specs.Services.{Outcome, refused, answered, checked, Reading, reading}
-use Rattle.diagram.specs.declared.refusal.Refusal.{Refusal}
+use Rattle.terms.specs.declared.refusal.Refusal.{Refusal}
 use Rattle.steps.specs.declared.verdict.Verdict.{Verdict}
 use Rattle.steps.specs.declared.verdict.Verdict.the-variants.{Passes}
 use Rattle.steps.specs.declared.verdict.Verdict.the-variants as verdict

@@ -1,6 +1,6 @@
 // What reading answers.
 use decoding::Decoded;
-use diagram::Refusal;
+use terms::Refusal;
 
 // V, N, the number of choices and B of a table.
 pub struct Summary {

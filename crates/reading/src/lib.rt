@@ -1,20 +1,16 @@
 // Reading a table file: the checks 11 to 18, 26 and 27, in the papers' order, each over the whole file before the next.
 mod answer;
-mod records;
-mod roots;
 mod shape;
-mod variables;
-mod words;
 
 pub use answer::ReadAnswer;
 pub use answer::Summary;
 pub use answer::TableAnswer;
 use decoding::decode;
 use decoding::empty;
-use diagram::Refusal;
 use implication::monotone_fault;
 use shape::read_shape;
 use steps::Fault;
+use terms::Refusal;
 ghost use mathlib.Core.Path.{_≡_};
 ghost use Rattle.diagram.specs.Services.{readOutcome};
 ghost use Rattle.decoding.specs.Decoding.{emptyTable};

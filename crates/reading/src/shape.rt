@@ -2,15 +2,15 @@
 // checks is a function, which takes what the parts before have found and hands on what is found.
 use crate::answer::ReadAnswer;
 use crate::answer::Summary;
-use crate::records::record_fault;
-use crate::roots::root_fault;
-use crate::roots::scale;
-use crate::variables::choices;
-use crate::variables::product;
-use crate::variables::variable_fault;
-use crate::words::count_fault;
-use crate::words::heading_fault;
-use crate::words::length_fault;
+use checking::choices;
+use checking::count_fault;
+use checking::heading_fault;
+use checking::length_fault;
+use checking::product;
+use checking::record_fault;
+use checking::root_fault;
+use checking::scale;
+use checking::variable_fault;
 use decoding::record_count;
 use decoding::variable_count;
 use steps::Measured;
@@ -19,10 +19,9 @@ use steps::and_then;
 use steps::and_within;
 ghost use mathlib.Core.Path.{_≡_};
 ghost use mathlib.Core.Option.{none};
-ghost use Rattle.diagram.specs.Table.{tableOf, choiceCount, scaleOf};
-ghost use Rattle.diagram.specs.Table as table;
-ghost use Rattle.diagram.specs.Checks.{headingFault, rootFault, headingChecks, variableChecks, scaleChecks, recordChecks, rewardChecks};
-ghost use Rattle.steps.specs.Steps.{finding, findingAfter, Measures};
+ghost use Rattle.diagram.specs.Checks.{headingFault, headingChecks, variableChecks, scaleChecks, recordChecks, rewardChecks};
+ghost use Rattle.steps.specs.Steps.{finding, findingAfter, measuringAfter};
+ghost use Rattle.checking.specs.Limited.{choicesOf, productOf, fileScale, RootsRight};
 ghost use Rattle.reading.specs.Answer.{outcomeOf, shapeOutcome, answerOf};
 
 // All of them.
@@ -60,7 +59,7 @@ fn check_heading(file: &[u8]) -> Verdict
 
 // 14 and 15, and the number of choices.
 fn check_variables(found: Verdict, file: &[u8]) -> Measured
-    ensures { λ r. ⌜ Measures found variableChecks (now (file .entry)) (choiceCount (tableOf (now (file .entry)) .variables)) r ⌝ }
+    ensures { λ r. ⌜ r ≡ measuringAfter found variableChecks (now (file .entry)) (choicesOf (now (file .entry))) ⌝ }
 {
     let found = and_then(found, 14, variable_fault(file));
     and_within(found, 15, choices(file))
@@ -68,7 +67,7 @@ fn check_variables(found: Verdict, file: &[u8]) -> Measured
 
 // 16, and the product of b.
 fn check_product(found: Verdict, file: &[u8]) -> Measured
-    ensures { λ r. ⌜ Measures found scaleChecks (now (file .entry)) (scaleOf (tableOf (now (file .entry)) .variables)) r ⌝ }
+    ensures { λ r. ⌜ r ≡ measuringAfter found scaleChecks (now (file .entry)) (productOf (now (file .entry))) ⌝ }
 {
     and_within(found, 16, product(file))
 }
@@ -89,8 +88,8 @@ fn check_records(found: Verdict, file: &[u8]) -> Verdict
 
 // 27, and B. Of a file in which nothing has been found, the heading and the root words are right, and the product is that of b.
 fn check_reward(found: Verdict, file: &[u8], product: u64) -> Measured
-    requires { ⌜ (found ≡ Verdict.Passes → (headingFault (now file) ≡ none) × (rootFault (now file) ≡ none) × (product ≡ scaleOf (tableOf (now file) .variables))) ⌝ }
-    ensures { λ r. ⌜ Measures found rewardChecks (now (file .entry)) (table.scale (tableOf (now (file .entry)))) r ⌝ }
+    requires { ⌜ (found ≡ Verdict.Passes → RootsRight (now file) × (product ≡ productOf (now file))) ⌝ }
+    ensures { λ r. ⌜ r ≡ measuringAfter found rewardChecks (now (file .entry)) (fileScale (now (file .entry))) ⌝ }
 {
     match found {
         Verdict::Refused(r) => Measured {

@@ -14,7 +14,7 @@ use Rattle.diagram.specs.Checks.{Check, placeZero, planLengthFault, planMarkFau
 use Rattle.diagram.specs.Services.{Outcome, refused, answered, checked, Reading, reading, readOutcome, scoreOutcome, sweepOutcome, filtering, filterOutcome, searching, searchOutcome}
 use Rattle.diagram.specs.Score.{score}
 use Rattle.diagram.specs.Plans.{upperBound, derivatives}
-use Rattle.diagram.specs.declared.refusal.Refusal.{Refusal}
+use Rattle.terms.specs.declared.refusal.Refusal.{Refusal}
 use Rattle.diagram.proofs.Checked.{checked-passes, checked-stops, checked-answered, checked-refused, read-refuses, Passed, read-passed, read-reading, first, later}
 use Rattle.steps.specs.declared.verdict.Verdict.{Verdict}
 use Rattle.steps.specs.declared.verdict.Verdict.the-variants.{Passes, Refused}

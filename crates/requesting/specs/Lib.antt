@@ -1,2 +1,2 @@
--- The checks of what comes with a file.
+-- The checks of what comes with a file, and what they find.
 pub mod Request

@@ -1,8 +1,6 @@
 // The checks of a request: those of the file, and those of what comes with it, 21 to 25, as steps over the number of choices.
 mod plans;
 
-use diagram::MOST_BUDGET;
-use diagram::MOST_PERCENT;
 use plans::full_plan_fault;
 use plans::mark_fault;
 use reading::ReadAnswer;
@@ -12,16 +10,11 @@ use reading::turned_away;
 use steps::Fault;
 use steps::Verdict;
 use steps::and_then;
+use terms::MOST_BUDGET;
+use terms::MOST_PERCENT;
 ghost use mathlib.Core.Path.{_≡_};
-ghost use mathlib.Core.Bool.{not};
-ghost use mathlib.Core.List.{List};
-ghost use Prim.Native.Nat.{ℕ};
-ghost use lib.Dec.{eqb, ltb};
-ghost use Rattle.diagram.specs.Table.{tableOf, choiceCount};
-ghost use Rattle.diagram.specs.Checks.{placeZero, fullPlanChecks, planChecks};
-ghost use Rattle.steps.specs.Steps.{faultOf, finding};
 ghost use Rattle.reading.specs.Answer.{Reads};
-ghost use Rattle.requesting.specs.Request.{requestChecks, requestOutcome};
+ghost use Rattle.requesting.specs.Request.{requestOutcome, requestFinding, planFinding, fullPlanFinding, unequalFault, aboveFault};
 
 // The checks of a file, and then 21 to 25. A service without kits or percent hands in 0 for them.
 pub fn accept(file: &[u8], plan: &[u8], budget: u32, percent: u32, size: usize) -> TableAnswer
@@ -41,7 +34,7 @@ pub fn accept(file: &[u8], plan: &[u8], budget: u32, percent: u32, size: usize) 
 
 // 21 to 25, of what comes with a file that has a number of choices.
 pub fn check_request(plan: &[u8], budget: u32, percent: u32, size: usize, choices: usize) -> Verdict
-    ensures { λ r. ⌜ ((s : List ℕ) → choices ≡ choiceCount (tableOf s .variables) → r ≡ finding (requestChecks (now (plan .entry)) budget percent size) s) ⌝ }
+    ensures { λ r. ⌜ r ≡ requestFinding (now (plan .entry)) budget percent size choices ⌝ }
 {
     let found = check_plan(plan, choices);
     let found = and_then(found, 23, above(MOST_PERCENT, percent));
@@ -51,7 +44,7 @@ pub fn check_request(plan: &[u8], budget: u32, percent: u32, size: usize, choice
 
 // 21 and 22.
 fn check_plan(plan: &[u8], choices: usize) -> Verdict
-    ensures { λ r. ⌜ ((s : List ℕ) → choices ≡ choiceCount (tableOf s .variables) → r ≡ finding (planChecks (now (plan .entry))) s) ⌝ }
+    ensures { λ r. ⌜ r ≡ planFinding (now (plan .entry)) choices ⌝ }
 {
     let found = and_then(Verdict::Passes, 21, unequal(plan.len(), choices));
     and_then(found, 22, mark_fault(plan))
@@ -59,7 +52,7 @@ fn check_plan(plan: &[u8], choices: usize) -> Verdict
 
 // 21 and 22 of the score, whose plan has to be full.
 pub fn check_full_plan(plan: &[u8], choices: usize) -> Verdict
-    ensures { λ r. ⌜ ((s : List ℕ) → choices ≡ choiceCount (tableOf s .variables) → r ≡ finding (fullPlanChecks (now (plan .entry))) s) ⌝ }
+    ensures { λ r. ⌜ r ≡ fullPlanFinding (now (plan .entry)) choices ⌝ }
 {
     let found = and_then(Verdict::Passes, 21, unequal(plan.len(), choices));
     and_then(found, 22, full_plan_fault(plan))
@@ -67,14 +60,14 @@ pub fn check_full_plan(plan: &[u8], choices: usize) -> Verdict
 
 // A fault where two numbers differ.
 fn unequal(x: usize, y: usize) -> Fault
-    ensures { λ r. ⌜ r ≡ faultOf (placeZero (not (eqb x y))) ⌝ }
+    ensures { λ r. ⌜ r ≡ unequalFault x y ⌝ }
 {
     if x == y { Fault::Nowhere } else { Fault::At(0) }
 }
 
 // A fault where a number is above its limit.
 fn above(limit: u32, x: u32) -> Fault
-    ensures { λ r. ⌜ r ≡ faultOf (placeZero (ltb limit x)) ⌝ }
+    ensures { λ r. ⌜ r ≡ aboveFault limit x ⌝ }
 {
     if limit < x {
         Fault::At(0)

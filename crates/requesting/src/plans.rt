@@ -1,6 +1,6 @@
 // Check 22: the marks of a plan.
-use diagram::Plan;
 use steps::Fault;
+use terms::Plan;
 ghost use mathlib.Core.Path.{_≡_};
 ghost use mathlib.Core.List.{[]};
 ghost use Rattle.diagram.specs.Checks.{planMarkFault, fullPlanFault};

@@ -5,19 +5,22 @@ use native.Mathlib.Nat.{add-zero, zero-add}
 use native.Mathlib.Decide.{decLt}
 use native.Mathlib.Omega.{arith}
 use mathlib.Core.Path.{_≡_, refl, sym, _∙_}
-use mathlib.Core.Bool.{true, false, cond}
+use mathlib.Core.Bool.{Bool, true, false, cond, false≢true}
 use mathlib.Core.Logic.{by-cases}
-use mathlib.Core.List.{List, [], _∷_, _++_}
-use lib.ListN.{length, getD, set, take, replicate, length-set, getD-replicate, List·getD-eq-default}
+use mathlib.Core.List.{List, [], _∷_, _++_, append-nil}
+use lib.ListN.{length, getD, set, take, drop, replicate, length-set, getD-replicate, List·getD-eq-default}
 use lib.Seq.{take-suc, getD-drop, getD-set-same, getD-set-other, ext-getD}
 use borrow.Author.Count.{below-more}
-use Rattle.diagram.specs.Table.{Variable, choice, chance, variableOf, isChoice, choiceCount}
+use borrow.Author.Tests.{ne-eqb}
+use Rattle.arrays.specs.Arrays.{over}
+use Rattle.diagram.specs.Table.{Variable, choice, chance, Table, sequence, variableOf, isChoice, choiceCount}
+use Rattle.diagram.specs.Plans.{openTaken}
 use Rattle.diagram.proofs.Places.{sequence-length, sequence-at}
 use Rattle.decoding.specs.declared.table.Decoded.{Decoded}
 use Rattle.decoding.specs.Decoding.{tableIn}
-use Rattle.decoding.proofs.Standing.{variables-in, variable-in}
-use Rattle.scoring.specs.Value.{marksFrom}
-use Rattle.scoring.specs.Passes.{markOf, marksByPosition}
+use Rattle.decoding.proofs.Standing.{variables-in, variable-in, sequence-same}
+use Rattle.weighing.specs.Value.{marksFrom}
+use Rattle.scoring.specs.Passes.{markOf, marksByPosition, takenMark, takenMarks}
 
 -- ---------------------------------------------------------------------------
 -- Choices of the first variables
@@ -59,6 +62,24 @@ module _ (d : Decoded) (p : ℕ) (h : p < d .variables) where
 
   pub choice-same : isChoice (next d p) ≡ false → choiceCount (first d (1 + p)) ≡ choiceCount (first d p)
   choice-same e = omega (arith, rw e at counted)
+
+-- the choices before a choice are fewer than all
+pub choices-before : (vs : List Variable) (x : ℕ) → x < length vs → isChoice (getD vs x (chance 0 1)) ≡ true → choiceCount (take x vs) < choiceCount vs
+unfolding choiceCount isChoice
+choices-before [] x h e = absurd (omega arith)
+choices-before (choice ∷ vs) zero h e = omega arith
+choices-before (chance a b ∷ vs) zero h e = absurd (false≢true e)
+choices-before (choice ∷ vs) (suc x) h e = omega (arith, choices-before vs x (omega arith) e)
+choices-before (chance a b ∷ vs) (suc x) h e = choices-before vs x (omega arith) e
+
+-- the mark of an open line that is taken
+mark-taken : (p : List ℕ) (i : ℕ) → i < length p → takenMark (getD p i 0) ≡ getD (openTaken p) i 0
+unfolding takenMark openTaken
+mark-taken [] i h = absurd (omega arith)
+mark-taken (zero ∷ p) zero h = refl
+mark-taken (suc m ∷ p) zero h = rw (ne-eqb (suc m) 0 (omega arith)) refl
+mark-taken (zero ∷ p) (suc i) h = mark-taken p i (omega arith)
+mark-taken (suc m ∷ p) (suc i) h = mark-taken p i (omega arith)
 
 -- ---------------------------------------------------------------------------
 -- The mark of one position
@@ -142,3 +163,30 @@ module _ (d : Decoded) (plan : List ℕ) where
         (λ i l.
         rw (sequence-at mark 0 64 i 0 (omega arith), zero-add)
         (by-cases (decLt i p) (λ b. m .done i b) (λ b. m .rest i (omega arith) (omega arith) ∙ sym (mark-past d plan i (omega arith)))))
+
+-- ---------------------------------------------------------------------------
+-- Open lines taken
+
+module _ (t : Table) (p : List ℕ) (long : length p ≡ choiceCount (t .variables)) where
+  taken-at : (x : ℕ) → takenMark (markOf t p x) ≡ markOf t (openTaken p) x
+  unfolding takenMark markOf marksFrom isChoice choiceCount
+  taken-at x = by-cases (decLt x (length (t .variables)))
+      (λ l. go (isChoice (getD (t .variables) x (chance 0 1))) refl l)
+      (λ f. rw (List·getD-eq-default (t .variables) (chance 0 1) {n = x} (omega (arith, f))) refl)
+    where
+      go : (b : Bool) → isChoice (getD (t .variables) x (chance 0 1)) ≡ b → x < length (t .variables) → takenMark (cond b (getD (drop (choiceCount (take x (t .variables))) p) 0 0) 3) ≡ cond b (getD (drop (choiceCount (take x (t .variables))) (openTaken p)) 0 0) 3
+      go true c l =
+          let before = choices-before (t .variables) x l c in
+          simp getD-drop (mark-taken p (choiceCount (take x (t .variables)) + 0) (omega arith))
+      go false c l = refl
+
+  pub taken-marks : {ms : List ℕ} → ms ≡ marksByPosition t p → takenMarks ms ≡ marksByPosition t (openTaken p)
+  unfolding takenMarks marksByPosition
+  taken-marks {ms} e =
+      sequence-same (λ (x : ℕ). takenMark (getD ms x 0)) (markOf t (openTaken p)) 0 0 64
+      (λ x l. rw (zero-add x, e, sequence-at (markOf t p) 0 64 x 0 l, zero-add x) (taken-at x))
+
+-- all marks are written
+pub taken-all : (ms : List ℕ) {x : ℕ} {cells : List ℕ} → cells ≡ over (sequence (λ (x : ℕ). takenMark (getD ms x 0)) 0 x) (replicate 64 1) → x ≡ 64 → cells ≡ takenMarks ms
+unfolding takenMarks over
+taken-all ms e all = e ∙ rw (all, sequence-length, append-nil) refl

@@ -1,8 +1,6 @@
--- Laws about the values of nodes and the arrays that hold them.
-pub mod Over
-pub mod Arcing
-pub mod Values
+-- Laws about the marks in force, the pass up, the sum over the roots, and what leaving a line loses.
 pub mod Forcing
 pub mod Passing
 pub mod Bounding
-pub mod HeldRoots
+pub mod RootSums
+pub mod Gaining

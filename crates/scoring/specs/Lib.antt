@@ -1,4 +1,4 @@
--- The values of nodes, the pass that computes them, and what the enums of this crate stand for.
-pub mod Value
+-- The marks in force, the pass that computes the values of nodes, what leaving a line loses, and what the enums of this crate stand for.
 pub mod Passes
+pub mod Valued
 pub mod Answer

@@ -1,75 +1,22 @@
--- What the arrays of a pass hold. Arrays by node number have the two ends first, arrays by position one entry for each position up to 63.
-use Prim.Native.Nat.{ℕ, zero, suc, _+_, _*_, _/_, _≤_, _<_, _^_}
+-- What the arrays of a pass hold. Arrays by node number have the two ends first, arrays by position one entry for each position up to 63; the weights of
+-- arcs stand by the arcs' numbers.
+use Prim.Native.Nat.{ℕ, zero, suc, _+_, _-_, _*_, _≤_, _<_, _^_}
 use mathlib.Core.Path.{_≡_}
-use mathlib.Core.Bool.{cond, _||_}
+use mathlib.Core.Bool.{cond}
 use mathlib.Core.List.{List, [], _∷_, _++_}
-use lib.ListN.{length, getD, drop}
+use lib.ListN.{length, getD, drop, replicate}
 use lib.Dec.{eqb}
-use Rattle.diagram.specs.Table.{Variable, Table, Record, chance, sequence, tableOf, variableCount, isChoice, choiceCount, scaleOf, scale}
+use Rattle.diagram.specs.Table.{Variable, Table, Record, chance, sequence, recordAt, isChoice, choiceCount, scaleOf, scale}
 use Rattle.diagram.specs.Validity.{Formed, BoundedShares}
 use Rattle.decoding.specs.Nodes.{column}
-use Rattle.decoding.specs.Decoding.{rootAt}
-use Rattle.scoring.specs.declared.roots.Roots.{Roots}
-use Rattle.scoring.specs.Value.{place, marksFrom, gap, highShare, lowShare, highArc, lowArc}
-
--- A list written over the front of another
-unfoldable pub over : List ℕ → List ℕ → List ℕ
-over new old = new ++ drop (length new) old
-
--- A number for each record, at its node, with zeros for the ends
-unfoldable pub byNode : (ℕ → ℕ) → (records : ℕ) → List ℕ
-byNode f n = 0 ∷ 0 ∷ sequence f 0 n
+use Rattle.ordering.specs.Numbers.{highArcNumber, lowArcNumber, lowArcOf, lowOffset}
+use Rattle.arrays.specs.Arrays.{over, byNode}
+use Rattle.weighing.specs.declared.roots.Roots.{Roots}
+use Rattle.weighing.specs.Value.{value, marksFrom, highWeight, lowWeight, highArc, lowArc}
+use Rattle.weighing.specs.Weights.{arcsOver}
 
 -- ---------------------------------------------------------------------------
--- What is computed once for a table
-
--- The product of b from each position on
-unfoldable pub products : List Variable → List ℕ
-products vs = sequence (λ x. scaleOf (drop x vs)) 0 64
-
--- A share of each position's variable; the default counts past the last variable
-unfoldable pub sharesBy : (Variable → ℕ) → List Variable → List ℕ
-sharesBy share vs = sequence (λ x. share (getD vs x (chance 0 1))) 0 64
-
--- The shares of the hi arcs at each position
-abbrev pub highShares : List Variable → List ℕ
-highShares vs = sharesBy (λ v. highShare v 1) vs
-
--- The shares of the lo arcs at each position
-abbrev pub lowShares : List Variable → List ℕ
-lowShares vs = sharesBy (λ v. lowShare v 2) vs
-
--- The weight of node n's arc to the child that `children` has: its share, times the quotient of the products after the node and at the child
-unfoldable pub arcWeight : (products shares positions children : List ℕ) → (n : ℕ) → ℕ
-arcWeight qs ss ps cs n =
-    getD ss (getD ps n 0) 0 * (getD qs (getD ps n 0 + 1) 0 / getD qs (getD ps (getD cs n 0) 0) 0)
-
--- The arrays have what that weight is computed from, and it stays within 2^56
-pub record Weighable (qs ss ps cs : List ℕ) (n : ℕ) : Type 0 where
-  pub from : getD ps n 0 < 63
-  pub to : getD ps (getD cs n 0) 0 < 64
-  pub positive : 0 < getD qs (getD ps (getD cs n 0) 0) 0
-  pub fits : arcWeight qs ss ps cs n ≤ 2 ^ 56
-
--- The first n roots of a table in arrays: at i + 2 the node of root i, and what comes to it, its reward times b of each variable before the node
-pub record RootsHeldTo (t : Table) (n : ℕ) (nodes weights : List ℕ) : Type 0 where
-  pub within : (i : ℕ) → i < n → (2 ≤ getD nodes (i + 2) 0) × (getD nodes (i + 2) 0 < length (t .records) + 2)
-  pub node : (i : ℕ) → i < n → getD nodes (i + 2) 0 ≡ rootAt (t .roots) i .node
-  pub weight : (i : ℕ) → i < n → getD weights (i + 2) 0 ≡ rootAt (t .roots) i .reward * gap t 0 (place t (rootAt (t .roots) i .node))
-
--- All roots of a table
-pub record RootsHeld (t : Table) (rs : Roots) : Type 0 where
-  pub all : rs .count ≡ length (t .roots)
-  pub few : rs .count ≤ 16
-  pub held : RootsHeldTo t (rs .count) (rs .nodes) (rs .weights)
-
--- The sum, over the first i roots, of what comes to a root times its node's value
-unfoldable pub rootSum : Roots → (values : List ℕ) → (i : ℕ) → ℕ
-rootSum rs vs zero = 0
-rootSum rs vs (suc i) = rootSum rs vs i + getD (rs .weights) (i + 2) 0 * getD vs (getD (rs .nodes) (i + 2) 0) 0
-
--- ---------------------------------------------------------------------------
--- What is computed once for a plan
+-- Marks
 
 -- The mark at a chance, which no plan has
 abbrev pub chanceMark : ℕ
@@ -83,17 +30,43 @@ markOf t p x = cond (isChoice (getD (t .variables) x (chance 0 1))) (getD (marks
 unfoldable pub marksByPosition : Table → (plan : List ℕ) → List ℕ
 marksByPosition t p = sequence (markOf t p) 0 64
 
--- The hi arc is in force unless the line is left. An open line counts as taken.
-unfoldable pub highInForce : (mark arc : ℕ) → ℕ
-highInForce m w = cond (eqb m 2) 0 w
+-- A mark, with an open line taken
+unfoldable pub takenMark : (mark : ℕ) → ℕ
+takenMark m = cond (eqb m 0) 1 m
 
--- The lo arc is in force where the line is left, and at a chance
-unfoldable pub lowInForce : (mark arc : ℕ) → ℕ
-lowInForce m w = cond (eqb m 2 || eqb m chanceMark) w 0
+-- Marks by position, with open lines taken
+unfoldable pub takenMarks : (marks : List ℕ) → List ℕ
+takenMarks ms = sequence (λ x. takenMark (getD ms x 0)) 0 64
 
 -- The mark of record k, from the arrays
 unfoldable pub markAtNode : (positions marks : List ℕ) → (k : ℕ) → ℕ
 markAtNode ps ms k = getD ms (getD ps (k + 2) 0) 0
+
+-- ---------------------------------------------------------------------------
+-- The arcs in force
+
+-- The hi arc is in force unless the line is left
+unfoldable pub highInForce : (mark arc : ℕ) → ℕ
+highInForce m w = cond (eqb m 2) 0 w
+
+-- The lo arc is in force unless the line is taken
+unfoldable pub lowInForce : (mark arc : ℕ) → ℕ
+lowInForce m w = cond (eqb m 1) 0 w
+
+-- The weights in force of record k's arcs
+abbrev pub highInForceAt : (positions marks arcs : List ℕ) → (k : ℕ) → ℕ
+highInForceAt ps ms ws k = highInForce (markAtNode ps ms k) (getD ws (highArcNumber k) 0)
+
+abbrev pub lowInForceAt : (positions marks arcs : List ℕ) → (k : ℕ) → ℕ
+lowInForceAt ps ms ws k = lowInForce (markAtNode ps ms k) (getD ws (lowArcNumber k) 0)
+
+-- The weights in force of the first n records' arcs
+abbrev pub arcsInForce : (positions marks arcs : List ℕ) → (records : ℕ) → (old : List ℕ) → List ℕ
+arcsInForce ps ms ws n old = arcsOver (highInForceAt ps ms ws) (lowInForceAt ps ms ws) n old
+
+-- The weights of the arcs of a table's first n records under a full plan
+abbrev pub planArcs : Table → (plan : List ℕ) → (records : ℕ) → (old : List ℕ) → List ℕ
+planArcs t u n old = arcsOver (highWeight t u) (lowWeight t u) n old
 
 -- ---------------------------------------------------------------------------
 -- The pass up
@@ -104,6 +77,10 @@ pub record Arcs : Type 0 where
   pub low : List ℕ
   pub highWeights : List ℕ
   pub lowWeights : List ℕ
+
+-- The same with the weights by arc number
+abbrev pub arcsOf : (high low weights : List ℕ) → Arcs
+arcsOf hs ls ws = record { high = hs; low = ls; highWeights = ws; lowWeights = drop lowOffset ws }
 
 -- The value of node n from those of the nodes before it
 unfoldable pub nodeValue : Arcs → (n : ℕ) → (values : List ℕ) → ℕ
@@ -121,11 +98,35 @@ pub record Fits (a : Arcs) (n : ℕ) : Type 0 where
   pub highLess : (k : ℕ) → k < n → getD (a .high) (k + 2) 0 < k + 2
   pub lowLess : (k : ℕ) → k < n → getD (a .low) (k + 2) 0 < k + 2
 
+-- The sum, over the first i roots, of what comes to a root times its node's value
+unfoldable pub rootSum : Roots → (values : List ℕ) → (i : ℕ) → ℕ
+rootSum rs vs zero = 0
+rootSum rs vs (suc i) = rootSum rs vs i + getD (rs .weights) (i + 2) 0 * getD vs (getD (rs .nodes) (i + 2) 0) 0
+
+-- ---------------------------------------------------------------------------
+-- Losses
+
+-- What leaving its line loses of record k's value under a full plan: all but what comes by the lo arc
+abbrev pub recordLoss : Table → (plan : List ℕ) → (k : ℕ) → ℕ
+recordLoss t u k = value t u (k + 2) - lowArc t k * value t u (recordAt (t .records) k .lo)
+
+-- What leaving its line loses of node m's value, from the arrays
+unfoldable pub lossOf : (low arcs values : List ℕ) → (m : ℕ) → ℕ
+lossOf ls ws vs m = getD vs m 0 - getD ws (lowArcOf m) 0 * getD vs (getD ls m 0) 0
+
+-- What comes to node m by its lo arc is no more than its value, which fits
+abbrev pub LossFits : (low arcs values : List ℕ) → (m : ℕ) → Type 0
+LossFits ls ws vs m = (getD ws (lowArcOf m) 0 * getD vs (getD ls m 0) 0 ≤ getD vs m 0) × (getD vs m 0 ≤ 2 ^ 56)
+
+-- The losses of the first n records' nodes, by node
+abbrev pub lossesOf : (low arcs values : List ℕ) → (records : ℕ) → List ℕ
+lossesOf ls ws vs n = over (byNode (λ k. lossOf ls ws vs (k + 2)) n) (replicate 256 0)
+
 -- ---------------------------------------------------------------------------
 -- A table and a plan in arrays
 
 -- The arrays hold table t's records and arcs and the marks of plan p: what the values of t's nodes under p are computed from
-pub record Marked (t : Table) (p : List ℕ) (n : ℕ) (ps hs ls ha la ms : List ℕ) : Type 0 where
+pub record Marked (t : Table) (p : List ℕ) (n : ℕ) (ps hs ls ws ms : List ℕ) : Type 0 where
   pub formed : Formed (length (t .variables)) (t .records)
   pub shares : BoundedShares (t .variables)
   pub bounded : scaleOf (t .variables) ≤ 2 ^ 56
@@ -135,8 +136,8 @@ pub record Marked (t : Table) (p : List ℕ) (n : ℕ) (ps hs ls ha la ms : List
   pub positions : ps ≡ column (length (t .variables)) (λ (r : Record). r .position) (t .records)
   pub high : hs ≡ column 0 (λ (r : Record). r .hi) (t .records)
   pub low : ls ≡ column 0 (λ (r : Record). r .lo) (t .records)
-  pub highArcs : (k : ℕ) → k < n → getD ha (k + 2) 0 ≡ highArc t k
-  pub lowArcs : (k : ℕ) → k < n → getD la (k + 2) 0 ≡ lowArc t k
+  pub highArcs : (k : ℕ) → k < n → getD ws (highArcNumber k) 0 ≡ highArc t k
+  pub lowArcs : (k : ℕ) → k < n → getD ws (lowArcNumber k) 0 ≡ lowArc t k
   pub marks : ms ≡ marksByPosition t p
   pub plan : length p ≡ choiceCount (t .variables)
   pub legal : (i : ℕ) → getD p i 0 ≤ 2

@@ -1,5 +1,5 @@
 // What the score answers.
-use diagram::Refusal;
+use terms::Refusal;
 
 // The score, or why the request is turned away.
 pub enum ScoreAnswer {

@@ -1,20 +1,28 @@
-// The score of a plan with all open lines taken.
+// A plan's bound, the score with all open lines taken, and what it is computed from.
 use crate::force::in_force;
 use crate::force::marks_by_position;
+use crate::force::take_open;
 use crate::pass::pass_up;
-use crate::roots::root_sum;
-use crate::weights::lay_out;
+use crate::pass::value_of;
 use decoding::Decoded;
-use diagram::Node;
+use terms::Node;
+use weighing::Roots;
+use weighing::lay_out;
 ghost use mathlib.Core.Path.{_≡_};
-ghost use mathlib.Core.List.{List};
-ghost use Prim.Native.Nat.{ℕ, _+_, _≤_};
-ghost use lib.ListN.{length, getD};
-ghost use Rattle.diagram.specs.Table.{Table, sequence, choiceCount};
-ghost use Rattle.diagram.specs.Plans.{openTaken, upperBound};
+ghost use Prim.Native.Nat.{ℕ, _≤_, _^_};
+ghost use lib.ListN.{length, getD, replicate};
+ghost use Rattle.diagram.specs.Table.{choiceCount};
+ghost use Rattle.diagram.specs.Plans.{upperBound};
 ghost use Rattle.decoding.specs.Decoding.{tableIn, Sound};
-ghost use Rattle.scoring.specs.Value.{value};
-ghost use Rattle.scoring.specs.Passes.{over, Marked};
+ghost use Rattle.scoring.specs.Passes.{rootSum};
+ghost use Rattle.scoring.specs.Valued.{Valued};
+
+// A plan's bound, its marks by position, and the roots of its table.
+pub struct PlanValue {
+    pub bound: u64,
+    pub marks: [u8; 64],
+    pub roots: Roots,
+}
 
 // The score with all open lines taken, of an accepted table and a plan that checks 21 and 22 let through.
 pub fn upper_bound(table: Decoded, plan: &[u8]) -> u64
@@ -22,58 +30,51 @@ pub fn upper_bound(table: Decoded, plan: &[u8]) -> u64
     requires plan { ⌜ (length (now plan) ≡ choiceCount (tableIn table .variables)) × ((i : ℕ) → getD (now plan) i 0 ≤ 2) ⌝ }
     ensures { λ r. ⌜ r ≡ upperBound (tableIn table) (now (plan .entry)) ⌝ }
 {
-    let mut high_arcs = [0u64; 256];
-    let mut low_arcs = [0u64; 256];
-    let roots = lay_out(table, &mut high_arcs, &mut low_arcs);
-    let marks = marks_by_position(table, plan);
+    let mut arcs = [0u64; 544];
+    let mut weights = [0u64; 544];
     let mut values = [0u64; 256];
-    values_of(
-        table.records,
-        &table.positions,
-        &table.high,
-        &table.low,
-        &high_arcs,
-        &low_arcs,
-        &marks,
-        &mut values,
-    );
-    root_sum(roots, &values)
+    let valued = value_plan(table, plan, &mut arcs, &mut weights, &mut values);
+    valued.bound
 }
 
-// The values of all nodes under the marks in force, an open line counting as taken. The arrays hold a table and a plan, as
-// `decode`, `lay_out` and `marks_by_position` leave them.
-pub fn values_of<'a>(
-    n: usize,
-    positions: &'a [u8; 256],
-    high: &'a [u8; 256],
-    low: &'a [u8; 256],
-    high_arcs: &[u64; 256],
-    low_arcs: &[u64; 256],
-    marks: &[u8; 64],
+// Values such a plan: writes the weights of the table's arcs, and with all open lines taken the weights of the arcs in force and the
+// values of the nodes.
+pub fn value_plan(
+    table: Decoded,
+    plan: &[u8],
+    arcs: &mut [u64; 544],
+    weights: &mut [u64; 544],
     values: &mut [u64; 256],
-)
-    requires arcs { ⌜ ((t : Table) × (p : List ℕ) × Marked t p n (now positions) (now high) (now low) (now «high_arcs») (now «low_arcs») (now marks)) ⌝ }
-    requires sizes { ⌜ length (now values) ≡ 256 ⌝ }
-    ensures { λ _. ⌜ ((t : Table) (p : List ℕ) → Marked t p n (now (positions .entry)) (now (high .entry)) (now (low .entry)) (now («high_arcs» .entry)) (now («low_arcs» .entry)) (now (marks .entry)) → now (values .exit) ≡ over (sequence (value t (openTaken p)) 0 (n + 2)) (now (values .entry))) ⌝ }
+) -> PlanValue
+    requires sound { ⌜ Sound table ⌝ }
+    requires plan { ⌜ (length (now plan) ≡ choiceCount (tableIn table .variables)) × ((i : ℕ) → getD (now plan) i 0 ≤ 2) ⌝ }
+    requires zeros { ⌜ (now arcs ≡ replicate 544 0) × (now weights ≡ replicate 544 0) × (now values ≡ replicate 256 0) ⌝ }
+    ensures { λ r. ⌜ Valued table (now (plan .entry)) (now (arcs .exit)) (now (weights .exit)) (now (values .exit)) r ⌝ }
 {
-    let mut high_weights = [0u64; 256];
-    let mut low_weights = [0u64; 256];
-    in_force(
-        n,
-        positions,
+    let roots = lay_out(table, arcs);
+    let marks = marks_by_position(table, plan);
+    let taken = take_open(&marks);
+    in_force(table.records, &table.positions, &taken, arcs, weights);
+    pass_up(table.records, &table.high, &table.low, weights, values);
+    let bound = root_sum(roots, values);
+    PlanValue {
+        bound,
         marks,
-        high_arcs,
-        low_arcs,
-        &mut high_weights,
-        &mut low_weights,
-    );
-    pass_up(n, high, low, &high_weights, &low_weights, values);
+        roots,
+    }
 }
 
-// The value of a node.
-pub fn value_of(values: &[u64; 256], node: Node) -> u64
-    ensures { λ r. ⌜ r ≡ getD (now (values .entry)) (node .0) 0 ⌝ }
+// The sum, over the roots, of what comes to a root times its node's value. It fits, and there are at most 16 roots.
+pub fn root_sum(roots: Roots, values: &[u64; 256]) -> u64
+    requires { ⌜ (roots .count ≤ 16) × (rootSum roots (now values) (roots .count) ≤ 2 ^ 56) ⌝ }
+    ensures { λ r. ⌜ r ≡ rootSum roots (now (values .entry)) (roots .count) ⌝ }
 {
-    let n = node.number();
-    values[n]
+    let mut sum = 0;
+    let mut i = 0;
+    while i < roots.count {
+        let node = Node::new(roots.nodes[i + 2]);
+        sum += roots.weights[i + 2] * value_of(values, node);
+        i += 1;
+    }
+    sum
 }

@@ -1,17 +1,19 @@
-// The arcs that are in force under a plan.
+// The marks by position, and the arcs that are in force under them.
 use decoding::Decoded;
 use decoding::is_choice_at;
 use decoding::position_of;
-use diagram::Node;
-use diagram::Plan;
-use diagram::Position;
+use ordering::HIGH_ARCS;
+use ordering::LOW_ARCS;
+use terms::Node;
+use terms::Plan;
+use terms::Position;
 ghost use mathlib.Core.Path.{_≡_};
-ghost use Prim.Native.Nat.{ℕ, _≤_, _<_, _+_};
+ghost use Prim.Native.Nat.{ℕ, _≤_, _<_};
 ghost use lib.ListN.{length, getD};
 ghost use Rattle.diagram.specs.Table.{choiceCount};
 ghost use Rattle.decoding.specs.Decoding.{tableIn};
 ghost use Rattle.scoring.specs.Passes as passes;
-ghost use Rattle.scoring.specs.Passes.{over, byNode, markAtNode, highInForce, lowInForce};
+ghost use Rattle.scoring.specs.Passes.{takenMark, takenMarks, highInForce, lowInForce, arcsInForce};
 
 // The mark in force at each position, `CHANCE` at a chance. The plan has one byte a choice, as check 21 asks.
 pub fn marks_by_position(table: Decoded, plan: &[u8]) -> [u8; 64]
@@ -32,31 +34,47 @@ pub fn marks_by_position(table: Decoded, plan: &[u8]) -> [u8; 64]
     marks
 }
 
-// The weights of the arcs in force of the first n records. An open line counts as taken. The positions are a table's, as
-// `decode` leaves them, and so below 64.
+// Marks by position, with open lines taken.
+pub fn take_open(marks: &[u8; 64]) -> [u8; 64]
+    ensures { λ r. ⌜ r ≡ takenMarks (now (marks .entry)) ⌝ }
+{
+    let mut taken = [Plan::TAKEN; 64];
+    let mut x = 0;
+    while x < 64 {
+        taken[x] = taken_mark(marks[x]);
+        x += 1;
+    }
+    taken
+}
+
+// A mark, with an open line taken.
+fn taken_mark(mark: u8) -> u8
+    ensures { λ r. ⌜ r ≡ takenMark mark ⌝ }
+{
+    if mark == Plan::OPEN {
+        Plan::TAKEN
+    } else {
+        mark
+    }
+}
+
+// The weights of the arcs in force of the first n records, by the arcs' numbers: 0 for the hi arc of a line that is left, and for the
+// lo arc of one that is taken. The positions are a table's, as `decode` leaves them, and so below 64.
 pub fn in_force(
     n: usize,
     positions: &[u8; 256],
     marks: &[u8; 64],
-    high_arcs: &[u64; 256],
-    low_arcs: &[u64; 256],
-    high_weights: &mut [u64; 256],
-    low_weights: &mut [u64; 256],
+    arcs: &[u64; 544],
+    weights: &mut [u64; 544],
 )
-    requires positions { ⌜ (n ≤ 254) × ((k : ℕ) → getD (now positions) k 0 < 64) ⌝ }
-    requires sizes { ⌜ (length (now «high_weights») ≡ 256) × (length (now «low_weights») ≡ 256) ⌝ }
-    ensures high { λ _. ⌜ now («high_weights» .exit) ≡ over (byNode (λ (k : ℕ). highInForce (markAtNode (now (positions .entry)) (now (marks .entry)) k) (getD (now («high_arcs» .entry)) (k + 2) 0)) n) (now («high_weights» .entry)) ⌝ }
-    ensures low { λ _. ⌜ now («low_weights» .exit) ≡ over (byNode (λ (k : ℕ). lowInForce (markAtNode (now (positions .entry)) (now (marks .entry)) k) (getD (now («low_arcs» .entry)) (k + 2) 0)) n) (now («low_weights» .entry)) ⌝ }
+    requires { ⌜ (n ≤ 254) × ((k : ℕ) → getD (now positions) k 0 < 64) × (length (now weights) ≡ 544) ⌝ }
+    ensures { λ _. ⌜ now (weights .exit) ≡ arcsInForce (now (positions .entry)) (now (marks .entry)) (now (arcs .entry)) n (now (weights .entry)) ⌝ }
 {
-    high_weights[0] = 0;
-    high_weights[1] = 0;
-    low_weights[0] = 0;
-    low_weights[1] = 0;
     let mut k = 0;
     while k < n {
-        let m = mark_at(marks, position_of(positions, Node::of_record(k)));
-        high_weights[k + 2] = high_weight(m, high_arcs[k + 2]);
-        low_weights[k + 2] = low_weight(m, low_arcs[k + 2]);
+        let mark = mark_at(marks, position_of(positions, Node::of_record(k)));
+        weights[k + HIGH_ARCS] = high_weight(mark, arcs[k + HIGH_ARCS]);
+        weights[k + LOW_ARCS] = low_weight(mark, arcs[k + LOW_ARCS]);
         k += 1;
     }
 }
@@ -71,17 +89,15 @@ pub fn mark_at(marks: &[u8; 64], at: Position) -> u8
 }
 
 // The weight of a hi arc under a mark: 0 where the line is left.
-pub fn high_weight(mark: u8, arc: u64) -> u64
+fn high_weight(mark: u8, arc: u64) -> u64
     ensures { λ r. ⌜ r ≡ highInForce mark arc ⌝ }
 {
     if mark == Plan::LEFT { 0 } else { arc }
 }
 
+// The weight of a lo arc under a mark: 0 where the line is taken.
 fn low_weight(mark: u8, arc: u64) -> u64
     ensures { λ r. ⌜ r ≡ lowInForce mark arc ⌝ }
 {
-    if mark == Plan::LEFT {
-        return arc;
-    }
-    if mark == Plan::CHANCE { arc } else { 0 }
+    if mark == Plan::TAKEN { 0 } else { arc }
 }

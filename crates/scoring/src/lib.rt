@@ -1,29 +1,23 @@
 // The score of a full plan: the weighted count of the settlings that lead to true, summed over the roots with their rewards, by one
 // pass up the records.
 mod answer;
-mod arcs;
 mod bound;
 mod force;
+mod loss;
 mod pass;
-mod roots;
-mod weights;
 
 pub use answer::ScoreAnswer;
-pub use bound::upper_bound;
-pub use bound::value_of;
-pub use bound::values_of;
-pub use force::high_weight;
+pub use bound::PlanValue;
+use bound::upper_bound;
+pub use bound::value_plan;
 pub use force::in_force;
 pub use force::mark_at;
-pub use force::marks_by_position;
-pub use pass::pass_up;
+pub use loss::loss_of;
+pub use loss::losses;
 use reading::ReadAnswer;
 use reading::read_table;
 use requesting::check_full_plan;
-pub use roots::Roots;
-pub use roots::root_sum;
 use steps::Verdict;
-pub use weights::lay_out;
 ghost use mathlib.Core.Path.{_≡_};
 ghost use Rattle.diagram.specs.Services.{scoreOutcome};
 ghost use Rattle.scoring.specs.Answer.{outcomeOf};

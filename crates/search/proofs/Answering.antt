@@ -13,7 +13,7 @@ use Rattle.diagram.specs.Plans.{openCount}
 use Rattle.diagram.specs.Ranking.{bestPlan}
 use Rattle.diagram.specs.Visits as visits
 use Rattle.diagram.specs.Services.{refused, answered, written, Reading, searching, searchOutcome, searchBuffer}
-use Rattle.diagram.specs.declared.refusal.Refusal.{Refusal}
+use Rattle.terms.specs.declared.refusal.Refusal.{Refusal}
 use Rattle.reading.proofs.Accepted.{passed-choices, passed-formed, passed-monotone}
 use Rattle.rule.proofs.Visiting.{visited-first, visits-bounded}
 use Rattle.requesting.specs.Request.{requestOutcome}
@@ -21,7 +21,7 @@ use Rattle.requesting.proofs.Requests.{Proper, proper, search-refused, search-a
 use Rattle.search.specs.declared.answer.SearchAnswer.{SearchAnswer}
 use Rattle.search.specs.declared.answer.SearchAnswer.the-variants.{Found, Refused}
 use Rattle.search.specs.Answer.{searchOf, visitsOf}
-use Rattle.search.specs.State.{Searched}
+use Rattle.search.specs.Searched.{Searched}
 
 module _ (s p held : List ℕ) (budget percent : ℕ) where
   -- What `search` promises of its answer and of its buffer

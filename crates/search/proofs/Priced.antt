@@ -9,12 +9,12 @@ use Rattle.diagram.specs.Score.{scoreFrom, score}
 use Rattle.diagram.specs.Plans.{upperBound, passes, LeastPassing}
 use Rattle.diagram.specs.Checks.{isMonotoneAt}
 use Rattle.diagram.specs.Validity.{Formed, Monotone}
-use Rattle.scoring.specs.Value.{place, marksFrom, valueFrom, value, gap, variableAt, highArc, lowArc}
+use Rattle.weighing.specs.Value.{nodePosition, marksFrom, valueFrom, value, gap, variableAt, highArc, lowArc}
 use Rattle.scoring.specs.Passes.{markOf}
 use Rattle.sweep.specs.Down.{rootWeight}
 use Rattle.layers.specs.Layers.{Layers}
-use Rattle.layers.specs.Flows.{highAt, lowAt, Layered, Line, atSum}
-use Rattle.search.specs.State.{priced}
+use Rattle.layout.specs.Flows.{highAt, lowAt, Layered, Line, atSum}
+use Rattle.search.specs.Searched.{priced}
 
 module _ (k : List ℕ) (t : Table) where
   pub priced-formed : Formed (length (t .variables)) (t .records) → Formed (length (priced k t .variables)) (priced k t .records)
@@ -35,12 +35,12 @@ module _ (k : List ℕ) (t : Table) where
 
   -- what the roots bring
   priced-root-weight : (m i : ℕ) → rootWeight (priced k t) m i ≡ rootWeight t m i
-  unfolding priced rootWeight gap place
+  unfolding priced rootWeight gap nodePosition
   priced-root-weight m zero = refl
   priced-root-weight m (suc i) = rw (priced-root-weight m i) refl
 
   pub priced-layered : {s order losses : List ℕ} {l : Layers} → Layered t s order l losses → Layered (priced k t) s order l losses
-  unfolding priced isMonotoneAt scale highAt lowAt highArc lowArc variableAt markOf marksFrom place gap value valueFrom
+  unfolding priced isMonotoneAt scale highAt lowAt highArc lowArc variableAt markOf marksFrom nodePosition gap value valueFrom
   priced-layered h =
       record {
         formed = h .formed;
@@ -64,7 +64,7 @@ module _ (k : List ℕ) (t : Table) where
   priced-sum f x (suc n) = rw (priced-sum f x n) refl
 
   pub priced-line : {s order : List ℕ} {from own to d : ℕ} → Line t s order from own to d → Line (priced k t) s order from own to d
-  unfolding priced markOf marksFrom place
+  unfolding priced markOf marksFrom nodePosition
   priced-line h =
       record {
         position = h .position;

@@ -2,7 +2,7 @@
 -- Assumes of the decoded table that it is accepted (`Sound`), and for the first visit that the arrays hold it, laid out for a search from the plan
 -- (`Arranged`).
 use Prim.Native.Nat.{ℕ, zero, suc, _+_, _-_, _≤_, _<_, _^_, min}
-use native.Mathlib.Nat.{zero-add, add-zero}
+use native.Mathlib.Nat.{add-zero}
 use native.Mathlib.Omega.{arith}
 use native.Mathlib.Decide.{ℕ-discrete, decLt}
 use mathlib.Core.Path.{_≡_, refl, ap, sym, _∙_}
@@ -12,34 +12,41 @@ use mathlib.Core.Option.{Option, none, some}
 use mathlib.Core.List.{List, [], _∷_, _++_}
 use lib.ListN.{length, getD, set, take, drop, replicate, length-set, length-append, length-replicate, drop-of-length-le}
 use lib.Pow.{pow-mono}
-use lib.Seq.{getD-set-same, getD-set-other, take-length, take-append-seam, getD-drop, getD-take, length-take-le, drop-cons}
-use Rattle.diagram.specs.Table.{Variable, choice, chance, Table, sequence, isChoice, choiceCount}
+use lib.Seq.{getD-set-same, getD-set-other, take-length, take-append-seam, getD-drop, getD-take, drop-cons}
+use Rattle.diagram.specs.Table.{Variable, choice, chance, Table, isChoice, choiceCount}
 use Rattle.diagram.specs.Plans.{openCount, costOf, cost, LeastPassing}
 use Rattle.diagram.specs.Visits as visits
-use Rattle.diagram.specs.declared.plan.Plan.{Plan}
+use Rattle.terms.specs.declared.plan.Plan.{Plan}
 use Rattle.cost.proofs.Kits.{cost-first}
 use Rattle.decoding.specs.declared.table.Decoded.{Decoded}
-use Rattle.decoding.specs.Decoding.{tableIn, Held, Valid, Sound}
-use Rattle.decoding.proofs.Standing.{place-in}
+use Rattle.decoding.specs.Decoding.{padTo, tableIn, Held, Valid, Sound}
+use Rattle.decoding.proofs.Padding.{pad-at}
+use Rattle.decoding.proofs.Standing.{choice-position-in}
 use Rattle.rule.proofs.Visiting.{visited-rule}
-use Rattle.scoring.specs.declared.roots.Roots.{Roots}
-use Rattle.scoring.specs.Value.{marksFrom}
-use Rattle.scoring.specs.Passes.{over, markOf, marksByPosition, Marked}
-use Rattle.scoring.proofs.Bounding.{marked}
-use Rattle.requesting.proofs.FullPlans.{Legal}
-use Rattle.scoring.proofs.Passing.{choices-before}
+use Rattle.weighing.specs.Value.{marksFrom}
+use Rattle.scoring.specs.Passes.{markOf}
+use Rattle.scoring.proofs.Forcing.{choices-before}
 use Rattle.sweep.proofs.Leaving.{choices-later}
-use Rattle.layers.specs.Chains.{pick, joined, placed}
 use Rattle.layers.specs.Layers.{Layers}
-use Rattle.layers.specs.Flows.{Stand, Line}
-use Rattle.layers.specs.Lines.{firstRank, ownRank, nextRank, lineNumber, lineKits}
+use Rattle.layout.specs.Flows.{Stand, Line}
 use Rattle.layout.specs.Layout.{Ending, Arranged}
-use Rattle.search.specs.State.{priced, rows, padded, openFrom, openLines, choicePosition, Ranked, numbersFrom, Holds, Scene, Visitable, ruled, Visited, Searched}
-use Rattle.search.proofs.OpenLines.{lines-length}
+use Rattle.lines.specs.Open.{rows, openFrom, openLines}
+use Rattle.lines.specs.Columns.{firstRank, ownRank, nextRank, lineNumber, lineKits, numbersFrom, listingOf, linesWritten}
+use Rattle.lines.proofs.Listed.{lines-length, lines-few}
+use Rattle.lines.proofs.RankedLines.{Ranked, lines-ranked}
+use Rattle.visiting.specs.State.{padded, Holds, Scene, Visitable, ruled, Visited}
+use Rattle.search.specs.Searched.{priced, Searched}
 use Rattle.search.proofs.Priced.{priced-formed, priced-monotone, priced-bound, priced-passing, priced-layered, priced-line}
 
 -- ---------------------------------------------------------------------------
 -- The positions of the choices
+
+-- The position of choice number i
+unfoldable pub choicePosition : List Variable → (i : ℕ) → ℕ
+choicePosition [] i = 0
+choicePosition (choice ∷ vs) zero = 0
+choicePosition (choice ∷ vs) (suc i) = suc (choicePosition vs i)
+choicePosition (chance a b ∷ vs) i = suc (choicePosition vs i)
 
 -- the position of a choice is within the variables, a choice's, and that of its number
 choice-at : (vs : List Variable) (i : ℕ) → i < choiceCount vs → (choicePosition vs i < length vs) × (isChoice (getD vs (choicePosition vs i) (chance 0 1)) ≡ true) × (choiceCount (take (choicePosition vs i) vs) ≡ i)
@@ -75,10 +82,10 @@ position-own (choice ∷ vs) (suc x) h e = ap suc (position-own vs x (omega arit
 position-own (chance a b ∷ vs) zero h e = absurd (false≢true e)
 position-own (chance a b ∷ vs) (suc x) h e = ap suc (position-own vs x (omega arith) e)
 
--- the places of a decoded table's choices are their positions
-pub places-own : {d : Decoded} → Held d → (i : ℕ) → i < choiceCount (tableIn d .variables) → getD (d .places) i 0 ≡ choicePosition (tableIn d .variables) i
-places-own {d} h i l =
-    let at = place-in h i (omega (arith, h .choices)) in
+-- a decoded table has the positions of its choices
+pub choice-positions-own : {d : Decoded} → Held d → (i : ℕ) → i < choiceCount (tableIn d .variables) → getD (d .«choice_positions») i 0 ≡ choicePosition (tableIn d .variables) i
+choice-positions-own {d} h i l =
+    let at = choice-position-in h i (omega (arith, h .choices)) in
     sym (position-own (tableIn d .variables) _ (at .within) (at .is)) ∙ ap (choicePosition (tableIn d .variables)) (at .number)
 
 -- ---------------------------------------------------------------------------
@@ -205,39 +212,39 @@ module _ (t : Table) (s : List ℕ) (long : length s ≡ choiceCount (t .variabl
   -- ---------------------------------------------------------------------------
   -- The layers as `line_ranks` writes them
 
-  module _ (count : ℕ) (numbers places : List ℕ) (listed : take count numbers ≡ openLines s) (size : count ≤ length numbers) (chosen : (i : ℕ) → i < choiceCount (t .variables) → getD places i 0 ≡ choicePosition (t .variables) i) where
+  module _ (count : ℕ) (numbers positions : List ℕ) (listed : numbers ≡ padTo 20 (openLines s)) (counted : count ≡ length (openLines s)) (chosen : (i : ℕ) → i < choiceCount (t .variables) → getD positions i 0 ≡ choicePosition (t .variables) i) where
     -- all open lines are listed
     pub open-counted : count ≡ openCount s
     unfolding openLines
-    open-counted = sym (length-take-le count numbers size) ∙ ap length listed ∙ lines-length 0 s
+    open-counted = counted ∙ lines-length 0 s
 
     number-at : (i : ℕ) → i < count → getD numbers i 0 ≡ getD (openLines s) i 0
-    number-at i h = sym (getD-take count numbers i 0 h) ∙ ap (λ (x : List ℕ). getD x i 0) listed
+    number-at i h = rw listed (pad-at 20 (openLines s) i (omega (arith, counted)))
 
     opened-at : (i : ℕ) → i < count → Opened t s i (getD (openLines s) i 0) (choicePosition (t .variables) (getD (openLines s) i 0))
     opened-at i h = opened i (omega (arith, open-counted))
 
-    place-at : (i : ℕ) → i < count → getD places (getD numbers i 0) 0 ≡ choicePosition (t .variables) (getD (openLines s) i 0)
-    place-at i h =
+    position-at : (i : ℕ) → i < count → getD positions (getD numbers i 0) 0 ≡ choicePosition (t .variables) (getD (openLines s) i 0)
+    position-at i h =
         let few = opened-at i h .within in
         rw (number-at i h) (chosen (getD (openLines s) i 0) (omega (arith, few, long)))
 
     -- what `line_ranks` asks for
-    pub numbers-few : choiceCount (t .variables) ≤ 20 → length (t .variables) < 64 → (i : ℕ) → i < count → (getD numbers i 0 < 20) × (getD places (getD numbers i 0) 0 < 64)
+    pub numbers-few : choiceCount (t .variables) ≤ 20 → length (t .variables) < 64 → (i : ℕ) → i < count → (getD numbers i 0 < 20) × (getD positions (getD numbers i 0) 0 < 64)
     numbers-few few short i h =
         let at = opened-at i h in
-        (rw (number-at i h) (omega (arith, at .within, long)), rw (place-at i h) (omega (arith, at .stand .within)))
+        (rw (number-at i h) (omega (arith, at .within, long)), rw (position-at i h) (omega (arith, at .stand .within)))
 
-    module _ {order ends kits lines : List ℕ} (ending : Ending t order ends) (ranked : Ranked count numbers places ends kits lines) where
+    module _ {order ends kits lines : List ℕ} (ending : Ending t order ends) (ranked : Ranked (listingOf numbers positions ends kits) count count lines) where
       own-at : (i n : ℕ) → 1 ≤ n → i + n ≡ count → ownRank lines n ≡ getD ends (choicePosition (t .variables) (getD (openLines s) i 0)) 0
       own-at i n more e =
           let at : count - i ≡ n = omega arith in
-          rw (at, place-at i (omega arith)) at (ranked .own i (omega arith))
+          rw (at, position-at i (omega arith)) at (ranked .own i (omega arith))
 
       next-at : (i n : ℕ) → 1 ≤ n → i + n ≡ count → nextRank lines n ≡ getD ends (choicePosition (t .variables) (getD (openLines s) i 0) + 1) 0
       next-at i n more e =
           let at : count - i ≡ n = omega arith in
-          rw (at, place-at i (omega arith)) at (ranked .next i (omega arith))
+          rw (at, position-at i (omega arith)) at (ranked .next i (omega arith))
 
       line-at : (i n : ℕ) → 1 ≤ n → i + n ≡ count → lineNumber lines n ≡ getD (openLines s) i 0
       line-at i n more e =
@@ -327,25 +334,30 @@ nothing-held t budget least best W {x} {y} {z} three ex ey ez e =
 -- What is made of the plan handed in: its marks, and the numbers of its open lines
 pub record Ready (p : List ℕ) (start : Plan) (count : ℕ) (numbers : List ℕ) : Type 0 where
   pub handed : (rows start ≡ p) × (start .marks ≡ padded p) × (length (start .marks) ≡ 20)
-  pub listed : (count ≤ 20) × (take count numbers ≡ openLines (rows start))
-  pub twenty : length numbers ≡ 20
+  pub listed : numbers ≡ padTo 20 (openLines (rows start))
+  pub counted : count ≡ length (openLines (rows start))
 
 module _ {d : Decoded} {p : List ℕ} (sound : Sound d) (long : length p ≡ choiceCount (tableIn d .variables)) {start : Plan} {count : ℕ} {numbers : List ℕ} (ready : Ready p start count numbers) where
-  lists : take count numbers ≡ openLines p
-  lists = rw (ready .handed .0) at (ready .listed .1)
+  lists : numbers ≡ padTo 20 (openLines p)
+  lists = rw (ready .handed .0) at (ready .listed)
 
-  room : count ≤ length numbers
-  room = omega (arith, ready .listed .0, ready .twenty)
+  room : count ≡ length (openLines p)
+  room = rw (ready .handed .0) at (ready .counted)
+
+  -- there are at most 20
+  pub first-count : count ≤ 20
+  first-count = omega (arith, room, lines-few p, long, sound .valid .choices)
 
   -- what `line_ranks` asks for
-  pub first-few : (i : ℕ) → i < count → (getD numbers i 0 < 20) × (getD (d .places) (getD numbers i 0) 0 < 64)
+  pub first-few : (i : ℕ) → i < count → (getD numbers i 0 < 20) × (getD (d .«choice_positions») (getD numbers i 0) 0 < 64)
   first-few =
-      numbers-few (tableIn d) p long count numbers (d .places) lists room (places-own (sound .held)) (sound .valid .choices) (omega (arith, sound .valid .variables))
+      numbers-few (tableIn d) p long count numbers (d .«choice_positions») lists room (choice-positions-own (sound .held)) (sound .valid .choices) (omega (arith, sound .valid .variables))
 
   -- all that the first visit is handed
-  pub first-visitable : {percent budget least bound left : ℕ} {ends order losses kits lines cells marks best tally : List ℕ} {l : Layers} → Arranged (tableIn d) p bound ends order l losses → Ranked count numbers (d .places) ends kits lines → getD cells 1 0 ≡ 1 → marks ≡ start .marks → left ≡ budget + 1 - costOf kits p → LeastPassing (tableIn d) percent least → Holds (priced (take (length p) kits) (tableIn d)) budget least none best tally → Visitable (firstScene kits (tableIn d) p order percent budget least) l losses lines cells marks best tally count left bound
+  pub first-visitable : (kits : List ℕ) → {percent budget least bound left : ℕ} {ends order losses lines cells marks best tally : List ℕ} {l : Layers} → Arranged (tableIn d) p bound ends order l losses → lines ≡ linesWritten (listingOf numbers (d .«choice_positions») ends kits) count (replicate 84 0) → getD cells 1 0 ≡ 1 → marks ≡ start .marks → left ≡ budget + 1 - costOf kits p → LeastPassing (tableIn d) percent least → Holds (priced (take (length p) kits) (tableIn d)) budget least none best tally → Visitable (firstScene kits (tableIn d) p order percent budget least) l losses lines cells marks best tally count left bound
   unfolding cost priced
-  first-visitable {kits} arranged ranked heavy same affords passing holds =
+  first-visitable kits {ends = ends} {lines = lines} arranged written heavy same affords passing holds =
+      let ranked : Ranked (listingOf numbers (d .«choice_positions») ends kits) count count lines = rw written (lines-ranked (listingOf numbers (d .«choice_positions») ends kits) count first-count (replicate 84 0) (simp length-replicate)) in
       let from = ranked .first in
       let list = take (length p) kits in
       record {
@@ -353,14 +365,14 @@ module _ {d : Decoded} {p : List ℕ} (sound : Sound d) (long : length p ≡ cho
           passing = priced-passing list (tableIn d) _ _ passing;
           few = sound .valid .choices;
           layered = priced-layered list (tableIn d) (arranged .layered);
-          layer = λ n more h. priced-line list (tableIn d) (layers-ranked (tableIn d) p long count numbers (d .places) lists room (places-own (sound .held)) (arranged .ending) ranked n more h);
-          priced = kits-ranked (tableIn d) p long count numbers (d .places) lists room (places-own (sound .held)) (arranged .ending) ranked;
+          layer = λ n more h. priced-line list (tableIn d) (layers-ranked (tableIn d) p long count numbers (d .«choice_positions») lists room (choice-positions-own (sound .held)) (arranged .ending) ranked n more h);
+          priced = kits-ranked (tableIn d) p long count numbers (d .«choice_positions») lists room (choice-positions-own (sound .held)) (arranged .ending) ranked;
         };
         stands = record {
           settles = record { size = refl; kept = λ i f. refl; later = λ i h. refl };
           marked = same ∙ ready .handed .1;
-          listed = open-ranked (tableIn d) p long count numbers (d .places) lists room (places-own (sound .held)) (arranged .ending) ranked;
-          few = omega (arith, open-counted (tableIn d) p long count numbers (d .places) lists room (places-own (sound .held)));
+          listed = open-ranked (tableIn d) p long count numbers (d .«choice_positions») lists room (choice-positions-own (sound .held)) (arranged .ending) ranked;
+          few = omega (arith, open-counted (tableIn d) p long count numbers (d .«choice_positions») lists room (choice-positions-own (sound .held)));
           affords = rw (cost-first kits p) affords;
           bounded = arranged .bounded ∙ sym (priced-bound list (tableIn d) p);
           right = rw from (record { high = λ j k h e. absurd (omega arith); low = λ j k h e. absurd (omega arith) });
@@ -371,7 +383,7 @@ module _ {d : Decoded} {p : List ℕ} (sound : Sound d) (long : length p ≡ cho
 
   -- the visits fit
   pub first-room : {n : ℕ} → n ≡ 0 → n + 2 ^ suc count ≤ 2 ^ 63
-  first-room e = omega (arith, e, pow-mono {i = suc count} {j = 21} (omega (arith, ready .listed .0)))
+  first-room e = omega (arith, e, pow-mono {i = suc count} {j = 21} (omega (arith, first-count)))
 
 -- what the first visit leaves is what document 01's search does
 pub first-explored : {t : Table} {p : List ℕ} → Valid t → (kits : List ℕ) → {percent budget least from counted : ℕ} {order cells marks cells′ marks′ best tally : List ℕ} → counted ≡ 0 → Visited (firstScene kits t p order percent budget least) from counted cells marks cells′ marks′ best tally → Searched (priced (take (length p) kits) t) percent budget least p best tally

@@ -1,3 +1,3 @@
--- What a search holds at each visit, and what the enum of this crate stands for.
-pub mod State
+-- What a search leaves, and what the enum of this crate stands for.
+pub mod Searched
 pub mod Answer

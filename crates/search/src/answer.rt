@@ -1,5 +1,5 @@
 // What the search answers.
-use diagram::Refusal;
+use terms::Refusal;
 
 // The score of the plan that is written, and the visits.
 pub struct Finding {

@@ -1,15 +1,15 @@
 // The search of an accepted table from a legal plan: everything that does not change is made once, then the plan is visited.
-use crate::lines::line_ranks;
-use crate::lines::open_lines;
-use crate::visit::visit;
 use cost::cost_of;
 use decoding::Decoded;
-use diagram::Plan;
 use incumbent::CUTOFF;
 use incumbent::ROOM;
 use incumbent::VISITS;
 use layers::ROOT_CELL;
 use layout::Layout;
+use lines::line_ranks;
+use lines::open_lines;
+use terms::Plan;
+use visiting::visit;
 ghost use mathlib.Core.Path.{_≡_};
 ghost use Prim.Native.Nat.{ℕ, _+_, _-_, _≤_};
 ghost use lib.ListN.{length, getD};
@@ -17,7 +17,7 @@ ghost use Rattle.diagram.specs.Table.{choiceCount};
 ghost use Rattle.diagram.specs.Plans.{LeastPassing};
 ghost use Rattle.decoding.specs.Decoding.{tableIn, Sound};
 ghost use Rattle.layout.specs.Layout.{LaidOut};
-ghost use Rattle.search.specs.State.{SearchedWithin};
+ghost use Rattle.search.specs.Searched.{SearchedWithin};
 
 // What limits a search: the kits that each line takes, the kits that there are, and the least score that passes.
 pub struct Limits {
@@ -51,7 +51,7 @@ pub fn explore(
     line_ranks(
         open.count,
         &numbers,
-        &table.places,
+        &table.choice_positions,
         &layout.ends,
         &kits,
         &mut lines,

@@ -1,13 +1,9 @@
 // The search: the first candidate in the ranking, found by the visits of document 01's rule.
 mod answer;
 mod explore;
-mod lines;
-mod visit;
 
 pub use answer::Finding;
 pub use answer::SearchAnswer;
-use diagram::Refusal;
-use diagram::least_passing;
 use explore::Limits;
 use explore::explore;
 use incumbent::CUTOFF;
@@ -16,6 +12,8 @@ use incumbent::VISITS;
 use layout::arrange;
 use reading::ReadAnswer;
 use requesting::accept;
+use terms::Refusal;
+use terms::least_passing;
 ghost use mathlib.Core.Path.{_≡_};
 ghost use Prim.Native.Nat.{suc, _+_, _≤_, _^_};
 ghost use lib.ListN.{length, take};

@@ -9,14 +9,14 @@ use mathlib.Core.List.{List, [], _∷_, _++_}
 use Rattle.diagram.specs.Checks.{Check, tableChecks}
 use Rattle.diagram.specs.Services.{Outcome, refused, checked, answered, readOutcome, Reading}
 use Rattle.diagram.proofs.Checked.{Among, first, later, read-answers}
-use Rattle.diagram.specs.declared.refusal.Refusal.{Refusal}
+use Rattle.terms.specs.declared.refusal.Refusal.{Refusal}
 use Rattle.steps.specs.declared.verdict.Fault.{Fault}
 use Rattle.steps.specs.declared.verdict.Fault.the-variants.{At, Nowhere}
 use Rattle.steps.specs.declared.verdict.Bounded.{Bounded}
 use Rattle.steps.specs.declared.verdict.Verdict.{Verdict}
 use Rattle.steps.specs.declared.verdict.Verdict.the-variants.{Passes, Refused}
 use Rattle.steps.specs.declared.verdict.Measured.{Measured}
-use Rattle.steps.specs.Steps.{faultOf, boundedBy, andThen, andWithin, findingAfter, finding, Measures}
+use Rattle.steps.specs.Steps.{faultOf, boundedBy, andThen, andWithin, findingAfter, finding, measured, measuringAfter}
 
 -- ---------------------------------------------------------------------------
 -- A check's answer
@@ -36,17 +36,12 @@ fault-some none i e q =
 fault-some (some j) i e q = cc
 
 -- a number that has a limit
-pub bounded-fault : (o : Option ℕ) (x : ℕ) {b : Bounded} → b ≡ boundedBy o x → b .fault ≡ faultOf o
-unfolding boundedBy faultOf
-bounded-fault none x e = rw e refl
-bounded-fault (some i) x e = rw e refl
-
-pub bounded-value : (o : Option ℕ) (x : ℕ) {b : Bounded} → b ≡ boundedBy o x → o ≡ none → b .value ≡ x
-unfolding boundedBy
-bounded-value none x e q = rw e refl
-bounded-value (some i) x e q =
-    let z : _≡_ {A = ℕ} 0 1 = cc in
-    absurd (omega arith)
+within-measured : (v : Verdict) (n : ℕ) (o : Option ℕ) (x : ℕ) → andWithin v n (boundedBy o x) ≡ measured (andThen v n (faultOf o)) x
+unfolding measured andThen boundedBy faultOf
+within-measured Passes n none x = refl
+within-measured Passes n (some i) x = refl
+within-measured (Refused r) n none x = refl
+within-measured (Refused r) n (some i) x = refl
 
 -- ---------------------------------------------------------------------------
 -- Lists in two parts
@@ -79,10 +74,10 @@ one-check v c s q n e = q ∙ rw (n, e) refl
 pub refused-after : {v : Verdict} (r : Refusal) (cs : List Check) (s : List ℕ) → v ≡ Refused r → Refused r ≡ findingAfter v cs s
 refused-after r cs s e = rw e (sym (refusal-stands r cs s))
 
--- after a refusal any number will do
-pub measures-refused : {v : Verdict} (r : Refusal) (cs : List Check) (s : List ℕ) (x y : ℕ) → v ≡ Refused r → Measures v cs s x (record { found = Refused r; value = y })
-measures-refused r cs s x y e =
-    record { found = refused-after r cs s e; value = λ q. absurd (refused-not-passes r q) }
+-- after a refusal no number is wanted
+pub measured-refused : {v : Verdict} (r : Refusal) (cs : List Check) (s : List ℕ) (x : ℕ) → v ≡ Refused r → record { found = Refused r; value = 0 } ≡ measuringAfter v cs s x
+unfolding measured
+measured-refused r cs s x e = rw (e, refusal-stands r cs s) refl
 
 -- ---------------------------------------------------------------------------
 -- Where nothing is found
@@ -117,18 +112,33 @@ pub passes-next : (c : Check) (cs : List Check) (s : List ℕ) → c .fault s �
 unfolding findingAfter andThen faultOf
 passes-next c cs s e rest = rw e rest
 
--- a check of a number that has a limit
-pub one-measured : (v : Verdict) {r : Measured} (c : Check) (s : List ℕ) (x : ℕ) {n : ℕ} {b : Bounded} → r ≡ andWithin v n b → n ≡ c .number → b ≡ boundedBy (c .fault s) x → Measures v (c ∷ []) s x r
-one-measured v c s x q n e =
-    let one = one-check v c s (ap (λ (m : Measured). m .found) q) n (bounded-fault (c .fault s) x e) in
-    record {
-      found = one;
-      value = λ p. ap (λ (m : Measured). m .value) q ∙ bounded-value (c .fault s) x e (passes-among v s one p (c .number) (c .fault) first);
-    }
+-- ---------------------------------------------------------------------------
+-- Numbers that have a limit
+
+-- a check of one
+pub one-measured : (v : Verdict) {r : Measured} (c : Check) (s : List ℕ) (x : ℕ) {n : ℕ} {b : Bounded} → r ≡ andWithin v n b → n ≡ c .number → b ≡ boundedBy (c .fault s) x → r ≡ measuringAfter v (c ∷ []) s x
+unfolding findingAfter
+one-measured v c s x q n e = q ∙ rw (n, e) (within-measured v (c .number) (c .fault s) x)
 
 -- and other checks before it
-pub measures-after : (v : Verdict) {w : Verdict} {r : Measured} (cs ds : List Check) (s : List ℕ) (x : ℕ) → w ≡ findingAfter v cs s → Measures w ds s x r → Measures v (cs ++ ds) s x r
-measures-after v cs ds s x e m = record { found = and-finding v cs ds s e (m .found); value = m .value }
+pub measured-after : (v : Verdict) {w : Verdict} {r : Measured} (cs ds : List Check) (s : List ℕ) (x : ℕ) → w ≡ findingAfter v cs s → r ≡ measuringAfter w ds s x → r ≡ measuringAfter v (cs ++ ds) s x
+measured-after v cs ds s x e q = q ∙ rw e (ap (λ (u : Verdict). measured u x) (sym (finding-append v cs ds s)))
+
+-- what is found, and the number where nothing is
+module _ (w : Verdict) (x : ℕ) {r : Measured} (e : r ≡ measured w x) where
+  pub measured-found : r .found ≡ w
+  unfolding measured
+  measured-found = ap (λ (m : Measured). m .found) e ∙ go w
+    where
+      go : (u : Verdict) → measured u x .found ≡ u
+      go Passes = refl
+      go (Refused y) = refl
+
+  pub measured-value : r .found ≡ Passes → r .value ≡ x
+  unfolding measured
+  measured-value p =
+      let q : w ≡ Passes = sym measured-found ∙ p in
+      ap (λ (m : Measured). m .value) e ∙ rw q refl
 
 -- ---------------------------------------------------------------------------
 -- Outcomes

@@ -1,6 +1,5 @@
 -- Checks as steps: what a list of checks finds in a file, one check after the other. Folded from the front, a list computes to what straight code makes.
 use Prim.Native.Nat.{ℕ}
-use mathlib.Core.Path.{_≡_}
 use mathlib.Core.List.{List, [], _∷_}
 use mathlib.Core.Option.{Option, none, some}
 use Rattle.diagram.specs.Checks.{Check}
@@ -27,9 +26,14 @@ andThen (Refused r) n f = Refused r
 andThen Passes n Nowhere = Passes
 andThen Passes n (At i) = Refused (record { number = n; place = i })
 
--- The same with the number that the next check is about
+-- A number where nothing is found, and else 0
+unfoldable pub measured : Verdict → ℕ → Measured
+measured Passes x = record { found = Passes; value = x }
+measured (Refused r) x = record { found = Refused r; value = 0 }
+
+-- The next check with the number that it is about
 abbrev pub andWithin : Verdict → (number : ℕ) → Bounded → Measured
-andWithin v n b = record { found = andThen v n (b .fault); value = b .value }
+andWithin v n b = measured (andThen v n (b .fault)) (b .value)
 
 -- What a list of checks finds in a file, after what others have found
 unfoldable pub findingAfter : Verdict → List Check → List ℕ → Verdict
@@ -40,7 +44,6 @@ findingAfter v (c ∷ cs) s = findingAfter (andThen v (c .number) (faultOf (c .f
 abbrev pub finding : List Check → List ℕ → Verdict
 finding cs s = findingAfter Passes cs s
 
--- What a list of checks finds, after what others have found, and a number that is right where nothing is found
-pub record Measures (v : Verdict) (cs : List Check) (s : List ℕ) (x : ℕ) (r : Measured) : Type 0 where
-  pub found : r .found ≡ findingAfter v cs s
-  pub value : r .found ≡ Passes → r .value ≡ x
+-- What a list of checks finds, after what others have found, and a number where nothing is found
+abbrev pub measuringAfter : Verdict → List Check → List ℕ → ℕ → Measured
+measuringAfter v cs s x = measured (findingAfter v cs s) x

@@ -2,7 +2,7 @@
 // straight code, which can be cut and joined.
 mod verdict;
 
-use diagram::Refusal;
+use terms::Refusal;
 pub use verdict::Bounded;
 pub use verdict::Fault;
 pub use verdict::Measured;
@@ -23,13 +23,19 @@ pub fn and_then(found: Verdict, number: u8, fault: Fault) -> Verdict
     }
 }
 
-// One check more, of a number that has a limit.
+// One check more, of a number that has a limit. It is 0 where a fault is found.
 pub fn and_within(found: Verdict, number: u8, bounded: Bounded) -> Measured
     ensures { λ r. ⌜ r ≡ andWithin found number bounded ⌝ }
 {
     let fault = bounded.fault;
-    Measured {
-        found: and_then(found, number, fault),
-        value: bounded.value,
+    match and_then(found, number, fault) {
+        Verdict::Passes => Measured {
+            found: Verdict::Passes,
+            value: bounded.value,
+        },
+        Verdict::Refused(r) => Measured {
+            found: Verdict::Refused(r),
+            value: 0,
+        },
     }
 }

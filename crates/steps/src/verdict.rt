@@ -1,5 +1,5 @@
 // What a check answers, and what a list of checks finds.
-use diagram::Refusal;
+use terms::Refusal;
 
 // The place that a check finds at fault: a word of the file, or an index of the plan.
 pub enum Fault {

@@ -2,7 +2,7 @@
 -- every other position to 0; all sums fit.
 -- Assumes of the arrays that they hold the table and the plan (`Marked`) and the roots (`RootsHeld`), and of the table what check 18 finds (`Monotone`).
 use Prim.Native.Nat.{ℕ, zero, suc, _+_, _-_, _*_, _≤_, _<_, _^_}
-use native.Mathlib.Nat.{le-refl, le-of-eq, add-zero, zero-add, add-sub-of-le}
+use native.Mathlib.Nat.{le-refl, le-of-eq, add-zero, zero-add}
 use native.Mathlib.Decide.{decLt}
 use native.Mathlib.Omega.{arith}
 use mathlib.Core.Path.{_≡_, refl, ap, sym, _∙_, fun-ext}
@@ -10,7 +10,6 @@ use mathlib.Core.Bool.{Bool, true, false, cond, false≢true}
 use mathlib.Core.Logic.{by-cases}
 use mathlib.Core.List.{List, [], _∷_}
 use lib.ListN.{length, getD, set, take, drop, replicate, length-replicate, getD-replicate, List·getD-eq-default}
-use lib.Seq.{getD-drop, getD-append-add}
 use lib.Dec.{eqb}
 use borrow.Author.Tests.{eqb-true, eq-eqb}
 use Rattle.diagram.specs.Table.{chance, Table, Record, sequence, recordAt, isChoice, choiceCount, scaleOf}
@@ -19,22 +18,25 @@ use Rattle.diagram.specs.Plans.{openTaken, isOpen, upperBound, derivative, deri
 use Rattle.diagram.specs.Checks.{positionOf}
 use Rattle.diagram.specs.Validity.{Monotone}
 use Rattle.diagram.proofs.Every.{both, and-true-both, both-ways}
-use Rattle.diagram.proofs.Places.{sequence-length, sequence-at}
+use Rattle.diagram.proofs.Places.{sequence-at}
 use Rattle.diagram.proofs.Locality.{position-less}
 use Rattle.diagram.proofs.FirstVariable.{scale-positive}
 use Rattle.decoding.proofs.Columns.{column-at}
-use Rattle.scoring.specs.declared.roots.Roots.{Roots}
-use Rattle.scoring.specs.Value.{place, value, rootedSum, variableAt, markAt, highWeight, lowWeight}
-use Rattle.scoring.specs.Passes.{over, byNode, RootsHeld, highInForce, lowInForce, markAtNode, Arcs, passUp, Fits, Marked}
-use Rattle.scoring.proofs.Values.{shares-drop, weights-scale, value-le, value-false, value-true, value-step, score-rooted, scale-rooted}
-use Rattle.scoring.proofs.Over.{over-getD, over-sequence-at, over-at}
+use Rattle.weighing.specs.declared.roots.Roots.{Roots}
+use Rattle.weighing.specs.Value.{nodePosition, value, rootedSum, variableAt, markAt, highWeight, lowWeight}
+use Rattle.weighing.specs.Weights.{RootsHeld}
+use Rattle.weighing.proofs.Values.{shares-drop, weights-scale, value-false, value-true, value-step, score-rooted, scale-rooted}
+use Rattle.scoring.specs.Passes.{markAtNode, arcsOf, planArcs, recordLoss, lossesOf, Marked}
+use Rattle.scoring.specs.Valued.{nodeValues}
 use Rattle.scoring.proofs.Bounding.{top-fits}
-use Rattle.scoring.proofs.Passing.{choices-before, scale-drop-le, position-within, mark-at-node, high-in-force, low-in-force, passed-values, marked-fits}
+use Rattle.scoring.proofs.Forcing.{choices-before}
+use Rattle.scoring.proofs.Passing.{position-within, mark-at-node, high-is, low-is, high-weight-is, low-weight-is, marked-fits}
+use Rattle.scoring.proofs.Gaining.{mark-number, loss-is}
 use Rattle.sweep.specs.Down.{dot, rootWeightsOf, RootFits, recordSum, passDown, Budget}
-use Rattle.sweep.specs.Drops.{Weighed, lossAt, opensAt, lossSum, Losing, isOf, valueLoss, derivativeAt, Chosen}
+use Rattle.sweep.specs.Drops.{Lossy, lossy, lossAt, opensAt, lossSum, lossSums, Losing, isOf, valueLoss, derivativeAt, Chosen}
 use Rattle.sweep.proofs.Transposing.{transposed}
 use Rattle.sweep.proofs.RootWeights.{root-weights-length, all-dot, root-weights-fit, held-rooted, root-weights-of}
-use Rattle.sweep.proofs.Leaving.{choices-later, mark-number, open-gains, left-step}
+use Rattle.sweep.proofs.Leaving.{choices-later, left-step}
 
 -- ---------------------------------------------------------------------------
 -- Numbers and lists
@@ -69,16 +71,6 @@ open-zero [] i o = refl
 open-zero (m ∷ p) zero o = eqb-true m 0 o
 open-zero (m ∷ p) (suc i) o = open-zero p i o
 
--- a bound of two lists is one of the first written over the second
-over-bound : (new old : List ℕ) (b : ℕ) → ((i : ℕ) → i < length new → getD new i 0 ≤ b) → ((i : ℕ) → getD old i 0 ≤ b) → (i : ℕ) → getD (over new old) i 0 ≤ b
-unfolding over
-over-bound new old b h g i =
-    by-cases (decLt i (length new))
-    (λ l. rw (over-getD new old i l) (h i l))
-    (λ f.
-    let e : length new + (i - length new) ≡ i = add-sub-of-le (omega (arith, f)) in
-    rw (← e, getD-append-add, getD-drop) (g (length new + (i - length new))))
-
 -- zeros are below every bound
 pub zeros-bound : (n b i : ℕ) → getD (replicate n 0) i 0 ≤ b
 zeros-bound n b i =
@@ -90,92 +82,62 @@ zeros-bound n b i =
 -- Sums of losses
 
 -- where no record is open at x nothing is lost there
-loss-none : (a : Weighed) (x n : ℕ) → ((k : ℕ) → k < n → opensAt a x k ≡ false) → lossSum a x n ≡ 0
+loss-none : (a : Lossy) (x n : ℕ) → ((k : ℕ) → k < n → opensAt a x k ≡ false) → lossSum a x n ≡ 0
 unfolding lossSum
 loss-none a x zero h = refl
 loss-none a x (suc k) h = rw (h k (omega arith), loss-none a x k (λ j l. h j (omega arith))) refl
 
 -- losses that are a number of each record times the node's weight
-loss-sum : (a : Weighed) (ws : List ℕ) (r : ℕ → ℕ) (x n : ℕ) → ((k : ℕ) → k < n → cond (opensAt a x k) (lossAt a k) 0 ≡ getD ws (k + 2) 0 * r k) → lossSum a x n ≡ recordSum ws r n
+loss-sum : (a : Lossy) (ws : List ℕ) (r : ℕ → ℕ) (x n : ℕ) → ((k : ℕ) → k < n → cond (opensAt a x k) (lossAt a k) 0 ≡ getD ws (k + 2) 0 * r k) → lossSum a x n ≡ recordSum ws r n
 unfolding lossSum recordSum
 loss-sum a ws r x zero h = refl
 loss-sum a ws r x (suc k) h = rw (h k (omega arith), loss-sum a ws r x k (λ j l. h j (omega arith))) refl
 
--- arcs, by their arrays
-abbrev pub arcsOf : (hs ls hw lw : List ℕ) → Arcs
-arcsOf hs ls hw lw = record { high = hs; low = ls; highWeights = hw; lowWeights = lw }
-
--- the arrays from which the drops are summed up
-abbrev pub lossesOf : (ps ls la ms vs ds : List ℕ) → Weighed
-lossesOf ps ls la ms vs ds =
-    record { positions = ps; low = ls; lowArcs = la; marks = ms; values = vs; weights = ds }
-
 -- ---------------------------------------------------------------------------
 -- The budget of the pass down
 
-module _ {t : Table} {p : List ℕ} {n : ℕ} {ps hs ls ha la ms : List ℕ} (m : Marked t p n ps hs ls ha la ms) where
-  -- the arrays hold the position and the children of record k
+module _ {t : Table} {p : List ℕ} {n : ℕ} {ps hs ls ws ms : List ℕ} (m : Marked t p n ps hs ls ws ms) where
+  -- the arrays hold the position of record k
   position-is : (k : ℕ) → k < n → getD ps (k + 2) 0 ≡ recordAt (t .records) k .position
   position-is k h = rw (m .positions) (column-at (length (t .variables)) (λ (r : Record). r .position) (t .records) k (omega (arith, m .size)))
 
-  pub high-is : (k : ℕ) → k < n → getD hs (k + 2) 0 ≡ recordAt (t .records) k .hi
-  high-is k h = rw (m .high) (column-at 0 (λ (r : Record). r .hi) (t .records) k (omega (arith, m .size)))
-
-  pub low-is : (k : ℕ) → k < n → getD ls (k + 2) 0 ≡ recordAt (t .records) k .lo
-  low-is k h = rw (m .low) (column-at 0 (λ (r : Record). r .lo) (t .records) k (omega (arith, m .size)))
-
   -- the weights in force
-  module _ {hw lw : List ℕ} (ehw : hw ≡ over (byNode (λ k. highInForce (markAtNode ps ms k) (getD ha (k + 2) 0)) n) (replicate 256 0)) (elw : lw ≡ over (byNode (λ k. lowInForce (markAtNode ps ms k) (getD la (k + 2) 0)) n) (replicate 256 0)) where
-    -- the arrays hold the weights of record k's arcs under the plan with all open lines taken
-    high-weight-is : (k : ℕ) → k < n → getD hw (k + 2) 0 ≡ highWeight t (openTaken p) k
-    high-weight-is k h = rw ehw (over-at (λ k. highInForce (markAtNode ps ms k) (getD ha (k + 2) 0)) (replicate 256 0) n k h ∙ high-in-force m k h)
-
-    low-weight-is : (k : ℕ) → k < n → getD lw (k + 2) 0 ≡ lowWeight t (openTaken p) k
-    low-weight-is k h = rw elw (over-at (λ k. lowInForce (markAtNode ps ms k) (getD la (k + 2) 0)) (replicate 256 0) n k h ∙ low-in-force m k h)
-
-    -- the pass up fits
-    pub fits : Fits (arcsOf hs ls hw lw) n
-    fits = rw (ehw, elw) (marked-fits m (replicate 256 0) (replicate 256 0))
-
-    -- a pass up gives the values
-    pub values-are : {vs : List ℕ} → vs ≡ over (passUp (arcsOf hs ls hw lw) n) (replicate 256 0) → vs ≡ over (sequence (value t (openTaken p)) 0 (n + 2)) (replicate 256 0)
-    values-are evs = evs ∙ rw (ehw, elw, passed-values m (replicate 256 0) (replicate 256 0)) refl
-
+  module _ {fs : List ℕ} (forced : fs ≡ planArcs t (openTaken p) n (replicate 544 0)) where
     -- the weights to begin with are what the roots bring
-    module _ {rs : Roots} {ws : List ℕ} (e : RootsHeld t rs) (ews : ws ≡ rootWeightsOf rs (rs .count) (replicate 256 0)) where
+    module _ {rs : Roots} {bs : List ℕ} (e : RootsHeld t rs) (ebs : bs ≡ rootWeightsOf rs (rs .count) (replicate 256 0)) where
       -- the sum with them is the sum over the roots
-      root-dot : (v : ℕ → ℕ) → dot ws v (n + 2) ≡ rootedSum t v
+      root-dot : (v : ℕ → ℕ) → dot bs v (n + 2) ≡ rootedSum t v
       root-dot v =
           let few = m .size .1 in
-          rw (ews, root-weights-of e (replicate 256 0) (rs .count) (le-refl (rs .count)), e .all, m .size .0) (all-dot t (held-rooted e) v (omega (arith, m .size .0)))
+          rw (ebs, root-weights-of e (replicate 256 0) (rs .count) (le-refl (rs .count)), e .all, m .size .0) (all-dot t (held-rooted e) v (omega (arith, m .size .0)))
 
       -- there are 256 weights
-      pub root-size : length ws ≡ 256
-      root-size = rw (ews, root-weights-of e (replicate 256 0) (rs .count) (le-refl (rs .count))) (root-weights-length t (rs .count) (replicate 256 0))
+      pub root-size : length bs ≡ 256
+      root-size = rw (ebs, root-weights-of e (replicate 256 0) (rs .count) (le-refl (rs .count))) (root-weights-length t (rs .count) (replicate 256 0))
 
       -- the roots' weights fit
       pub root-fits : (i : ℕ) → i < rs .count → RootFits rs (replicate 256 0) i
       root-fits i h =
           let within = e .held .within i h .1 in
-          let fit = root-weights-fit t (held-rooted e) (λ i. scaleOf (drop (place t i) (t .variables))) (omega (arith, m .size)) (λ i. scale-positive (shares-drop (m .shares) (place t i))) (suc i) (omega (arith, e .all)) (getD (rs .nodes) (i + 2) 0) within in
+          let fit = root-weights-fit t (held-rooted e) (λ i. scaleOf (drop (nodePosition t i) (t .variables))) (omega (arith, m .size)) (λ i. scale-positive (shares-drop (m .shares) (nodePosition t i))) (suc i) (omega (arith, e .all)) (getD (rs .nodes) (i + 2) 0) within in
           (omega (arith, within, m .size), rw (root-weights-of e (replicate 256 0) (suc i) (omega arith)) (omega (arith, fit, scale-rooted t (m .formed) (m .shares), m .scaled)))
 
       -- the pass down stays within its budget: a node's number is the product of b from its position on
-      pub budget : Budget (arcsOf hs ls hw lw) n (λ i. scaleOf (drop (place t i) (t .variables))) ws
-      unfolding place positionOf
+      pub budget : Budget (arcsOf hs ls fs) n (λ i. scaleOf (drop (nodePosition t i) (t .variables))) bs
+      unfolding nodePosition positionOf
       budget =
           record {
-            positive = λ i. scale-positive (shares-drop (m .shares) (place t i));
+            positive = λ i. scale-positive (shares-drop (m .shares) (nodePosition t i));
             steps = λ k h.
                 let two : k + 2 ≡ suc (suc k) = omega arith in
-                rw (high-weight-is k h, low-weight-is k h, high-is k h, low-is k h, two)
+                rw (high-weight-is m forced k h, low-weight-is m forced k h, high-is m k h, low-is m k h, two)
                 (le-of-eq (weights-scale t (m .formed) (m .shares) (openTaken p) k));
-            total = rw (root-dot (λ i. scaleOf (drop (place t i) (t .variables))), scale-rooted t (m .formed) (m .shares)) (m .scaled);
-            highLess = fits .highLess;
-            lowLess = fits .lowLess;
+            total = rw (root-dot (λ i. scaleOf (drop (nodePosition t i) (t .variables))), scale-rooted t (m .formed) (m .shares)) (m .scaled);
+            highLess = marked-fits m forced .highLess;
+            lowLess = marked-fits m forced .lowLess;
           }
 
-      module _ {ds : List ℕ} (eds : ds ≡ passDown (arcsOf hs ls hw lw) n ws) where
+      module _ {ds : List ℕ} (eds : ds ≡ passDown (arcsOf hs ls fs) n bs) where
         -- of the ends, only true counts
         ends : (u : List ℕ) → dot ds (value t u) 2 ≡ getD ds 1 0
         unfolding dot
@@ -185,7 +147,7 @@ module _ {t : Table} {p : List ℕ} {n : ℕ} {ps hs ls ha la ms : List ℕ} (m 
         summed : (u : List ℕ) (r : ℕ → ℕ) → ((k : ℕ) → value t u (k + 2) + r k ≡ highWeight t (openTaken p) k * value t u (recordAt (t .records) k .hi) + lowWeight t (openTaken p) k * value t u (recordAt (t .records) k .lo)) → score t u + recordSum ds r n ≡ getD ds 1 0
         summed u r step =
             let few = m .size .1 in
-            let all = transposed (arcsOf hs ls hw lw) n ws (value t u) r (fits .highLess) (fits .lowLess) (omega (arith, root-size)) (λ k h. rw (high-weight-is k h, low-weight-is k h, high-is k h, low-is k h) (step k)) in
+            let all = transposed (arcsOf hs ls fs) n bs (value t u) r (marked-fits m forced .highLess) (marked-fits m forced .lowLess) (omega (arith, root-size)) (λ k h. rw (high-weight-is m forced k h, low-weight-is m forced k h, high-is m k h, low-is m k h) (step k)) in
             omega (arith, rw (← eds) at all, root-dot (value t u), score-rooted t (m .formed) (m .shares) u, ends u)
 
         -- the top is the weight that comes to the end true
@@ -209,9 +171,9 @@ module _ {t : Table} {p : List ℕ} {n : ℕ} {ps hs ls ha la ms : List ℕ} (m 
       let before = choices-before (t .variables) (recordAt (t .records) k .position) (position-less (m .formed) k) (s .0) in
       (s .0, open-within p _ (omega (arith, m .plan)) (sym (mark-number t p k) ∙ s .1))
 
-  module _ (vs ds : List ℕ) (x : ℕ) where
+  module _ (ns ds : List ℕ) (x : ℕ) where
     -- what a record that is open at x says of x
-    opened : (k : ℕ) → k < n → opensAt (lossesOf ps ls la ms vs ds) x k ≡ true → (recordAt (t .records) k .position ≡ x) × (isChoice (getD (t .variables) x (chance 0 1)) ≡ true) × (isOpen p (choiceCount (take x (t .variables))) ≡ true)
+    opened : (k : ℕ) → k < n → opensAt (lossy ps ms ns ds) x k ≡ true → (recordAt (t .records) k .position ≡ x) × (isChoice (getD (t .variables) x (chance 0 1)) ≡ true) × (isOpen p (choiceCount (take x (t .variables))) ≡ true)
     unfolding opensAt markAtNode variableAt
     opened k h e =
         let s = both (eqb (getD ps (k + 2) 0) x) e in
@@ -234,7 +196,7 @@ module _ {t : Table} {p : List ℕ} {n : ℕ} {ps hs ls ha la ms : List ℕ} (m 
           (λ g. omega (arith, f, g)))
 
       -- the records that are open at an open choice's position are those of the choice
-      opens-is : (k : ℕ) → k < n → opensAt (lossesOf ps ls la ms vs ds) x k ≡ isOf t (choiceCount (take x (t .variables))) k
+      opens-is : (k : ℕ) → k < n → opensAt (lossy ps ms ns ds) x k ≡ isOf t (choiceCount (take x (t .variables))) k
       unfolding opensAt isOf markAtNode variableAt
       opens-is k h =
           both-ways _ _
@@ -248,30 +210,24 @@ module _ {t : Table} {p : List ℕ} {n : ℕ} {ps hs ls ha la ms : List ℕ} (m 
           and-true-both _ _ (eq-eqb _ _ here) (eq-eqb _ _ mark))
 
       -- what is lost at a record is what its value loses times the node's weight
-      loss-is : vs ≡ over (sequence (value t (openTaken p)) 0 (n + 2)) (replicate 256 0) → (k : ℕ) → k < n → cond (opensAt (lossesOf ps ls la ms vs ds) x k) (lossAt (lossesOf ps ls la ms vs ds) k) 0 ≡ getD ds (k + 2) 0 * valueLoss t p (choiceCount (take x (t .variables))) k
+      sum-is : ((k : ℕ) → k < n → getD ns (k + 2) 0 ≡ recordLoss t (openTaken p) k) → (k : ℕ) → k < n → cond (opensAt (lossy ps ms ns ds) x k) (lossAt (lossy ps ms ns ds) k) 0 ≡ getD ds (k + 2) 0 * valueLoss t p (choiceCount (take x (t .variables))) k
       unfolding lossAt valueLoss
-      loss-is evs k h =
-          let lo-less = m .formed .loLess k in
-          let own = over-sequence-at (value t (openTaken p)) (replicate 256 0) (n + 2) (k + 2) (omega arith) in
-          let low = over-sequence-at (value t (openTaken p)) (replicate 256 0) (n + 2) (recordAt (t .records) k .lo) (omega arith) in
-          rw (opens-is k h, low-is k h, m .lowArcs k h, evs, own, low) (go (isOf t (choiceCount (take x (t .variables))) k) _ _)
+      sum-is lost k h =
+          rw (opens-is k h, lost k h) (go (isOf t (choiceCount (take x (t .variables))) k) _ _)
         where
           go : (b : Bool) (w y : ℕ) → cond b (w * y) 0 ≡ w * cond b y 0
           go true w y = refl
           go false w y = omega arith
 
     -- nothing is lost where no open choice stands
-    loss-nothing : (isChoice (getD (t .variables) x (chance 0 1)) ≡ true → isOpen p (choiceCount (take x (t .variables))) ≡ true → ⊥) → lossSum (lossesOf ps ls la ms vs ds) x n ≡ 0
+    loss-nothing : (isChoice (getD (t .variables) x (chance 0 1)) ≡ true → isOpen p (choiceCount (take x (t .variables))) ≡ true → ⊥) → lossSum (lossy ps ms ns ds) x n ≡ 0
     loss-nothing f =
         loss-none _ x n (λ k h. is-false _ (λ e. let s = opened k h e in f (s .1) (s .2)))
 
   -- ---------------------------------------------------------------------------
   -- Bounds
 
-  -- the top, the values and the drops are at most 2^56
-  pub value-fits : (u : List ℕ) (i : ℕ) → value t u i ≤ 2 ^ 56
-  value-fits u i = omega (arith, value-le t (m .shares) u i, scale-drop-le (m .shares) (place t i), m .bounded)
-
+  -- the drops are at most 2^56
   drop-fits : (x : ℕ) → derivativeAt t p x ≤ 2 ^ 56
   unfolding derivativeAt derivative
   drop-fits x =
@@ -285,44 +241,27 @@ module _ {t : Table} {p : List ℕ} {n : ℕ} {ps hs ls ha la ms : List ℕ} (m 
   -- ---------------------------------------------------------------------------
   -- The drops
 
-  module _ (monotone : Monotone t) {rs : Roots} {hw lw ws vs ds : List ℕ} (e : RootsHeld t rs) (ehw : hw ≡ over (byNode (λ k. highInForce (markAtNode ps ms k) (getD ha (k + 2) 0)) n) (replicate 256 0)) (elw : lw ≡ over (byNode (λ k. lowInForce (markAtNode ps ms k) (getD la (k + 2) 0)) n) (replicate 256 0)) (evs : vs ≡ over (sequence (value t (openTaken p)) 0 (n + 2)) (replicate 256 0)) (ews : ws ≡ rootWeightsOf rs (rs .count) (replicate 256 0)) (eds : ds ≡ passDown (arcsOf hs ls hw lw) n ws) where
+  module _ (monotone : Monotone t) {rs : Roots} {fs bs vs ns ds : List ℕ} (forced : fs ≡ planArcs t (openTaken p) n (replicate 544 0)) (values : vs ≡ nodeValues t (openTaken p) n (replicate 256 0)) (e : RootsHeld t rs) (ebs : bs ≡ rootWeightsOf rs (rs .count) (replicate 256 0)) (eds : ds ≡ passDown (arcsOf hs ls fs) n bs) (ens : ns ≡ lossesOf ls ws vs n) where
     -- what is lost at a position is the drop of its choice
-    lost-at : (x : ℕ) → lossSum (lossesOf ps ls la ms vs ds) x n ≡ derivativeAt t p x
+    lost-at : (x : ℕ) → lossSum (lossy ps ms ns ds) x n ≡ derivativeAt t p x
     unfolding derivativeAt derivative
     lost-at x =
         let i = choiceCount (take x (t .variables)) in
         go (isChoice (getD (t .variables) x (chance 0 1))) refl (isOpen p i) refl
       where
-        go : (b : Bool) → isChoice (getD (t .variables) x (chance 0 1)) ≡ b → (d : Bool) → isOpen p (choiceCount (take x (t .variables))) ≡ d → lossSum (lossesOf ps ls la ms vs ds) x n ≡ cond b (derivative t p (choiceCount (take x (t .variables)))) 0
+        go : (b : Bool) → isChoice (getD (t .variables) x (chance 0 1)) ≡ b → (d : Bool) → isOpen p (choiceCount (take x (t .variables))) ≡ d → lossSum (lossy ps ms ns ds) x n ≡ cond b (derivative t p (choiceCount (take x (t .variables)))) 0
         go true c true o =
-            loss-sum _ ds _ x n (loss-is vs ds x c o evs) ∙ sym (drop-is ehw elw e ews eds monotone (choiceCount (take x (t .variables))) o)
-        go true c false o = loss-nothing vs ds x (λ _ q. false≢true (sym o ∙ q)) ∙ rw o refl
-        go false c d o = loss-nothing vs ds x (λ q _. false≢true (sym c ∙ q))
+            loss-sum _ ds _ x n (sum-is ns ds x c o (λ k h. rw ens (loss-is m values k h))) ∙ sym (drop-is forced e ebs eds monotone (choiceCount (take x (t .variables))) o)
+        go true c false o = loss-nothing ns ds x (λ _ q. false≢true (sym o ∙ q)) ∙ rw o refl
+        go false c d o = loss-nothing ns ds x (λ q _. false≢true (sym c ∙ q))
 
     -- what is lost at the positions is the drops
-    pub drops-are : sequence (λ x. lossSum (lossesOf ps ls la ms vs ds) x n) 0 64 ≡ sequence (derivativeAt t p) 0 64
+    pub drops-are : lossSums (lossy ps ms ns ds) n ≡ sequence (derivativeAt t p) 0 64
     drops-are = ap (λ (f : ℕ → ℕ). sequence f 0 64) (fun-ext lost-at)
 
-    -- at an open line no less comes by the hi arc than by the lo arc
-    gains : (x k : ℕ) → k < n → opensAt (lossesOf ps ls la ms vs ds) x k ≡ true → getD la (k + 2) 0 * getD vs (getD ls (k + 2) 0) 0 ≤ getD vs (k + 2) 0
-    gains x k h e =
-        let s = opened vs ds x k h e in
-        let lo-less = m .formed .loLess k in
-        let own = over-sequence-at (value t (openTaken p)) (replicate 256 0) (n + 2) (k + 2) (omega arith) in
-        let low = over-sequence-at (value t (openTaken p)) (replicate 256 0) (n + 2) (recordAt (t .records) k .lo) (omega arith) in
-        rw (low-is k h, m .lowArcs k h, evs, own, low)
-        (open-gains t (m .formed) monotone (m .shares) p _ (s .2) k (sym (opens-is vs ds x (s .1) (s .2) k h) ∙ e))
-
-    -- what is lost is not below zero, and fits
-    pub losing : Losing (lossesOf ps ls la ms vs ds) n
-    losing =
-        record {
-          few = m .size .1;
-          within = position-within m;
-          gains = gains;
-          fits = rw evs (over-bound _ _ _ (λ i l. rw (sequence-at (value t (openTaken p)) 0 (n + 2) i 0 (rw sequence-length at l)) (value-fits (openTaken p) (0 + i))) (zeros-bound 256 _));
-          sums = λ x. rw (lost-at x) (drop-fits x);
-        }
+    -- the sums fit
+    pub losing : Losing (lossy ps ms ns ds) n
+    losing = record { few = m .size .1; within = position-within m; sums = λ x. rw (lost-at x) (drop-fits x) }
 
 -- ---------------------------------------------------------------------------
 -- By choice number

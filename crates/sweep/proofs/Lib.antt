@@ -1,6 +1,5 @@
--- The laws of the pass down, of the drops and of the filter.
+-- The laws of the pass down and of the drops.
 pub mod Serving
-pub mod ForcedLines
 pub mod Transposing
 pub mod RootWeights
 pub mod Summing

@@ -17,9 +17,9 @@ use Rattle.diagram.specs.Table.{Table}
 use Rattle.diagram.specs.Score.{rewarded}
 use Rattle.decoding.specs.Decoding.{rootAt}
 use Rattle.decoding.proofs.Rooting.{rewarded-next, rewarded-part}
-use Rattle.scoring.specs.declared.roots.Roots.{Roots}
-use Rattle.scoring.specs.Value.{place, gap, rootedSum}
-use Rattle.scoring.specs.Passes.{RootsHeld}
+use Rattle.weighing.specs.declared.roots.Roots.{Roots}
+use Rattle.weighing.specs.Value.{nodePosition, gap, rootedSum}
+use Rattle.weighing.specs.Weights.{RootsHeld}
 use Rattle.sweep.specs.Down.{dot, added, rootWeights, rootWeightsOf, rootWeight}
 use Rattle.decoding.specs.Decoding.{Rooted}
 use Rattle.sweep.proofs.Transposing.{added-length, dot-added, dot-zeros, dot-term}
@@ -33,17 +33,17 @@ root-weights-length t (suc i) ws = added-length (rootWeights t i ws) _ _ ∙ roo
 -- With a value for each node
 
 module _ (t : Table) (rooted : Rooted t) (v : ℕ → ℕ) where
-  root-weights-dot : (ws : List ℕ) → length (t .records) + 2 ≤ length ws → (i : ℕ) → i ≤ length (t .roots) → dot (rootWeights t i ws) v (length (t .records) + 2) ≡ dot ws v (length (t .records) + 2) + rewarded (λ m. gap t 0 (place t m) * v m) (take i (t .roots))
+  root-weights-dot : (ws : List ℕ) → length (t .records) + 2 ≤ length ws → (i : ℕ) → i ≤ length (t .roots) → dot (rootWeights t i ws) v (length (t .records) + 2) ≡ dot ws v (length (t .records) + 2) + rewarded (λ m. gap t 0 (nodePosition t m) * v m) (take i (t .roots))
   unfolding rootWeights rewarded
   root-weights-dot ws long zero h = omega arith
   root-weights-dot ws long (suc i) h =
       let n = length (t .records) in
       let node = rootAt (t .roots) i .node in
       let within = rooted i (omega arith) in
-      let more = dot-added (rootWeights t i ws) v node (rootAt (t .roots) i .reward * gap t 0 (place t node)) (n + 2) (within .1) (omega (arith, within .1, root-weights-length t i ws)) in
-      omega (arith, more, root-weights-dot ws long i (omega arith), rewarded-next (λ m. gap t 0 (place t m) * v m) (t .roots) i (omega arith))
+      let more = dot-added (rootWeights t i ws) v node (rootAt (t .roots) i .reward * gap t 0 (nodePosition t node)) (n + 2) (within .1) (omega (arith, within .1, root-weights-length t i ws)) in
+      omega (arith, more, root-weights-dot ws long i (omega arith), rewarded-next (λ m. gap t 0 (nodePosition t m) * v m) (t .roots) i (omega arith))
 
-  part-dot : length (t .records) ≤ 254 → (i : ℕ) → i ≤ length (t .roots) → dot (rootWeights t i (replicate 256 0)) v (length (t .records) + 2) ≡ rewarded (λ m. gap t 0 (place t m) * v m) (take i (t .roots))
+  part-dot : length (t .records) ≤ 254 → (i : ℕ) → i ≤ length (t .roots) → dot (rootWeights t i (replicate 256 0)) v (length (t .records) + 2) ≡ rewarded (λ m. gap t 0 (nodePosition t m) * v m) (take i (t .roots))
   part-dot few i h =
       let long = length-replicate {A = ℕ} 256 0 in
       omega (arith, root-weights-dot (replicate 256 0) (omega arith) i h, dot-zeros 256 v (length (t .records) + 2) (omega arith))
@@ -58,7 +58,7 @@ module _ (t : Table) (rooted : Rooted t) (v : ℕ → ℕ) where
   unfolding rootedSum
   root-weights-fit few positive i h m l =
       let ws = rootWeights t i (replicate 256 0) in
-      omega (arith, dot-term ws v m (length (t .records) + 2) l, part-dot few i h, rewarded-part (λ m. gap t 0 (place t m) * v m) (t .roots) i, mul-le-mul-left (getD ws m 0) (positive m))
+      omega (arith, dot-term ws v m (length (t .records) + 2) l, part-dot few i h, rewarded-part (λ m. gap t 0 (nodePosition t m) * v m) (t .roots) i, mul-le-mul-left (getD ws m 0) (positive m))
 
 -- ---------------------------------------------------------------------------
 -- Cell by cell
@@ -76,7 +76,7 @@ unfolding rootWeights rootWeight
 root-weights-cell t rooted ws long m zero h = omega arith
 root-weights-cell t rooted ws long m (suc i) h =
     let within = rooted i (omega arith) in
-    omega (arith, added-cell (rootWeights t i ws) (rootAt (t .roots) i .node) (rootAt (t .roots) i .reward * gap t 0 (place t (rootAt (t .roots) i .node))) m (omega (arith, within .1, root-weights-length t i ws)), root-weights-cell t rooted ws long m i (omega arith))
+    omega (arith, added-cell (rootWeights t i ws) (rootAt (t .roots) i .node) (rootAt (t .roots) i .reward * gap t 0 (nodePosition t (rootAt (t .roots) i .node))) m (omega (arith, within .1, root-weights-length t i ws)), root-weights-cell t rooted ws long m i (omega arith))
 
 -- ---------------------------------------------------------------------------
 -- From arrays

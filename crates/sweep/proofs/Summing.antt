@@ -1,6 +1,6 @@
 -- The losses summed up by position, as a loop over the records has them before each turn.
--- Assumes of the arrays, where a law says so, that no loss is below zero and that the sums fit (`Losing`).
-use Prim.Native.Nat.{ℕ, zero, suc, _+_, _-_, _*_, _≤_, _<_, _^_}
+-- Assumes of the arrays, where a law says so, that the sums fit (`Losing`).
+use Prim.Native.Nat.{ℕ, zero, suc, _+_, _*_, _≤_, _<_, _^_}
 use native.Mathlib.Nat.{zero-add, eq-or-lt-of-le}
 use native.Mathlib.Numerals.{add-one}
 use native.Mathlib.Decide.{ℕ-discrete}
@@ -15,7 +15,7 @@ use lib.Dec.{eqb}
 use borrow.Author.Tests.{eq-eqb, ne-eqb}
 use Rattle.diagram.specs.Table.{sequence}
 use Rattle.diagram.proofs.Places.{sequence-length, sequence-at}
-use Rattle.sweep.specs.Drops.{Weighed, lossAt, opensAt, lossSum, Losing}
+use Rattle.sweep.specs.Drops.{Lossy, lossAt, opensAt, lossSum, lossSums, Losing}
 
 -- ---------------------------------------------------------------------------
 -- One cell, read at m for node or position d
@@ -29,24 +29,9 @@ pub added-fits : (cells : List ℕ) (x : ℕ) {m d b : ℕ} → m ≡ d → getD
 added-fits cells x e h = rw e h
 
 -- ---------------------------------------------------------------------------
--- One loss, read at m for node d, where v is the value of the node's child by lo
-
-module _ (low arcs values weights : List ℕ) where
-  -- what is computed neither goes below zero nor wraps, and is the loss
-  pub record Lost (d m v : ℕ) : Type 0 where
-    pub left : getD arcs m 0 * v < 2 ^ 64
-    pub gains : getD arcs m 0 * v ≤ getD values m 0
-    pub fits : getD weights m 0 * (getD values m 0 - getD arcs m 0 * v) < 2 ^ 64
-    pub exact : getD weights m 0 * (getD values m 0 - getD arcs m 0 * v) ≡ getD weights d 0 * (getD values d 0 - getD arcs d 0 * getD values (getD low d 0) 0)
-
-  -- with the child b
-  pub lost : {m d b v : ℕ} → m ≡ d → b ≡ getD low d 0 → v ≡ getD values b 0 → (getD arcs d 0 * getD values (getD low d 0) 0 ≤ getD values d 0) × (getD values d 0 ≤ 2 ^ 56) → getD weights d 0 * (getD values d 0 - getD arcs d 0 * getD values (getD low d 0) 0) ≤ 2 ^ 56 → Lost d m v
-  lost e f g h l = rw (e, g, f) (record { left = omega arith; gains = h .0; fits = omega arith; exact = refl })
-
--- ---------------------------------------------------------------------------
 -- A sum, record after record
 
-module _ (a : Weighed) (x : ℕ) where
+module _ (a : Lossy) (x : ℕ) where
   -- an open choice's record at x adds its loss
   sum-open : (k : ℕ) → opensAt a x k ≡ true → lossSum a x (k + 1) ≡ lossSum a x k + lossAt a k
   unfolding lossSum
@@ -72,17 +57,17 @@ module _ (a : Weighed) (x : ℕ) where
 -- ---------------------------------------------------------------------------
 -- The sums of the first k records, by position
 
-pub record Summed (a : Weighed) (k : ℕ) (drops : List ℕ) : Type 0 where
+pub record Summed (a : Lossy) (k : ℕ) (drops : List ℕ) : Type 0 where
   pub size : length drops ≡ 64
   pub each : (x : ℕ) → x < 64 → getD drops x 0 ≡ lossSum a x k
 
 -- before the first turn
-pub summed-start : (a : Weighed) → Summed a 0 (replicate 64 0)
+pub summed-start : (a : Lossy) → Summed a 0 (replicate 64 0)
 unfolding lossSum
 summed-start a = record { size = refl; each = λ x l. getD-replicate 64 x 0 0 l }
 
 -- after the last
-pub summed-end : {a : Weighed} {n : ℕ} {drops : List ℕ} → Summed a n drops → drops ≡ sequence (λ (x : ℕ). lossSum a x n) 0 64
+pub summed-end : {a : Lossy} {n : ℕ} {drops : List ℕ} → Summed a n drops → drops ≡ lossSums a n
 summed-end {a} {n} {drops} s =
     let size = s .size in
     let sum : ℕ → ℕ = λ x. lossSum a x n in
@@ -92,13 +77,7 @@ summed-end {a} {n} {drops} s =
 -- ---------------------------------------------------------------------------
 -- A turn: record k has the node m, its position is p, and the mark there is o
 
--- what leaving its line would lose at node m
-abbrev lossOf : Weighed → (m : ℕ) → ℕ
-lossOf a m =
-    getD (a .weights) m 0
-    * (getD (a .values) m 0 - getD (a .lowArcs) m 0 * getD (a .values) (getD (a .low) m 0) 0)
-
-module _ {a : Weighed} {n : ℕ} (h : Losing a n) {k m p o : ℕ} (l : k < n) (d : m ≡ k + 2) (e : p ≡ getD (a .positions) m 0) (g : o ≡ getD (a .marks) p 0) where
+module _ {a : Lossy} {n : ℕ} (h : Losing a n) {k m p o : ℕ} (l : k < n) (d : m ≡ k + 2) (e : p ≡ getD (a .positions) m 0) (g : o ≡ getD (a .marks) p 0) where
   -- the position has a cell
   pub position-within : p < 64
   position-within = rw e (h .within m)
@@ -118,32 +97,28 @@ module _ {a : Weighed} {n : ℕ} (h : Losing a n) {k m p o : ℕ} (l : k < n) (d
   unfolding opensAt
   opens-shut x u = rw (← d, ← e, ← g, ne-eqb o 0 u) (and-false (eqb p x))
 
-  -- its loss, by node
-  loss-here : lossOf a m ≡ lossAt a k
-  unfolding lossAt
-  loss-here = rw d
-
   -- a record whose mark is closed changes no sum
   pub summed-shut : {drops : List ℕ} → Summed a k drops → o ≢ 0 → Summed a (k + 1) drops
   summed-shut s u = record { size = s .size; each = λ x b. s .each x b ∙ sym (sum-other a x k (opens-shut x u)) }
 
   module _ (z : o ≡ 0) where
-    -- the loss is a difference that is not below zero
-    pub loss-gains : getD (a .lowArcs) m 0 * getD (a .values) (getD (a .low) m 0) 0 ≤ getD (a .values) m 0
-    loss-gains = rw d (h .gains p k l (opens-here z))
-
-    -- the sum with this loss fits
-    sum-fits : lossSum a p k + lossOf a m ≤ 2 ^ 56
-    sum-fits = omega (arith, loss-here, sum-open a p k (opens-here z), sum-le a p (k + 1) n (omega arith), h .sums p)
+    -- the sum with the record's loss fits
+    sum-fits : lossSum a p k + lossAt a k ≤ 2 ^ 56
+    sum-fits = omega (arith, sum-open a p k (opens-here z), sum-le a p (k + 1) n (omega arith), h .sums p)
 
     -- and so does the loss
-    pub loss-fits : lossOf a m ≤ 2 ^ 56
+    pub loss-fits : getD (a .paths) (k + 2) 0 * getD (a .losses) (k + 2) 0 < 2 ^ 64
+    unfolding lossAt
     loss-fits = omega (arith, sum-fits)
 
-    module _ {drops : List ℕ} (s : Summed a k drops) {x : ℕ} (w : x ≡ lossOf a m) where
+    module _ {drops : List ℕ} (s : Summed a k drops) {x : ℕ} (w : x ≡ getD (a .paths) (k + 2) 0 * getD (a .losses) (k + 2) 0) where
+      loss-here : x ≡ lossAt a k
+      unfolding lossAt
+      loss-here = w
+
       -- the sum in the cell, with the loss x, fits
       pub cell-fits : getD drops p 0 + x < 2 ^ 64
-      cell-fits = omega (arith, sum-fits, s .each p position-within)
+      cell-fits = omega (arith, sum-fits, loss-here, s .each p position-within)
 
       -- a record whose mark is open adds its loss to the cell of its position
       pub summed-open : Summed a (k + 1) (set drops p (getD drops p 0 + x))

@@ -10,7 +10,7 @@ use mathlib.Core.List.{List}
 use lib.ListN.{length, getD, set, replicate, length-set, getD-replicate}
 use lib.Seq.{getD-set-same, getD-set-other}
 use Rattle.scoring.specs.Passes.{Arcs}
-use Rattle.sweep.specs.Down.{dot, recordSum, added, handOn, passDown, Budget}
+use Rattle.sweep.specs.Down.{dot, recordSum, added, handOn, HandsOn, passDown, Budget}
 
 -- ---------------------------------------------------------------------------
 -- Sums of weight times value
@@ -93,13 +93,8 @@ hand-on-dot a m ws v h l size =
     let long = added-length ws (getD (a .high) m 0) x in
     omega (arith, dot-added ws v (getD (a .high) m 0) x m h (omega arith), dot-added one v (getD (a .low) m 0) y m l (omega arith))
 
--- what `hand_on` asks of its arrays: children have smaller numbers, and what they come to fits
-abbrev Handed : Arcs → (m : ℕ) → List ℕ → Type 0
-Handed a m ws =
-    (getD (a .high) m 0 < m) × (getD (a .low) m 0 < m) × ((i : ℕ) → i < m → getD (handOn a m ws) i 0 ≤ 2 ^ 56)
-
 -- the first addition fits; n and h are the numbers that the code has for the node and its hi child
-pub first-fits : (a : Arcs) (m : ℕ) (ws : List ℕ) → Handed a m ws → m ≤ length ws → (n h : ℕ) → n ≡ m → h ≡ getD (a .high) m 0 → getD ws h 0 + getD ws n 0 * getD (a .highWeights) n 0 ≤ 2 ^ 56
+pub first-fits : (a : Arcs) (m : ℕ) (ws : List ℕ) → HandsOn a m ws → m ≤ length ws → (n h : ℕ) → n ≡ m → h ≡ getD (a .high) m 0 → getD ws h 0 + getD ws n 0 * getD (a .highWeights) n 0 ≤ 2 ^ 56
 unfolding handOn
 first-fits a m ws fits size n h en eh =
     let hi = fits .0 in
@@ -110,20 +105,20 @@ first-fits a m ws fits size n h en eh =
     rw (en, eh) (omega (arith, fits .2 high hi, added-here ws high x (omega arith), added-le (added ws high x) (getD (a .low) m 0) (getD ws m 0 * getD (a .lowWeights) m 0) high (omega arith)))
 
 -- the second addition fits, to the weights `one` that the first has left
-pub second-fits : (a : Arcs) (m : ℕ) (ws : List ℕ) → Handed a m ws → m ≤ length ws → (one : List ℕ) (n h l : ℕ) → n ≡ m → h ≡ getD (a .high) m 0 → l ≡ getD (a .low) m 0 → one ≡ added ws h (getD ws n 0 * getD (a .highWeights) n 0) → getD one l 0 + getD ws n 0 * getD (a .lowWeights) n 0 ≤ 2 ^ 56
+pub second-fits : (a : Arcs) (m : ℕ) (ws : List ℕ) → HandsOn a m ws → m ≤ length ws → (one : List ℕ) (n h l w : ℕ) → n ≡ m → h ≡ getD (a .high) m 0 → l ≡ getD (a .low) m 0 → w ≡ getD (a .lowWeights) n 0 → one ≡ added ws h (getD ws n 0 * getD (a .highWeights) n 0) → getD one l 0 + getD ws n 0 * w ≤ 2 ^ 56
 unfolding handOn
-second-fits a m ws fits size one n h l en eh el e1 =
+second-fits a m ws fits size one n h l w en eh el ew e1 =
     let lo = fits .1 in
     let x = getD ws m 0 * getD (a .highWeights) m 0 in
     let high = getD (a .high) m 0 in
     let low = getD (a .low) m 0 in
     let long = added-length ws high x in
-    rw (e1, en, eh, el) (omega (arith, fits .2 low lo, added-here (added ws high x) low (getD ws m 0 * getD (a .lowWeights) m 0) (omega arith)))
+    rw (e1, ew, en, eh, el) (omega (arith, fits .2 low lo, added-here (added ws high x) low (getD ws m 0 * getD (a .lowWeights) m 0) (omega arith)))
 
 -- the two additions are the handing on
-pub both-added : (a : Arcs) (m : ℕ) (ws : List ℕ) (one two : List ℕ) (n h l : ℕ) → n ≡ m → h ≡ getD (a .high) m 0 → l ≡ getD (a .low) m 0 → one ≡ added ws h (getD ws n 0 * getD (a .highWeights) n 0) → two ≡ added one l (getD ws n 0 * getD (a .lowWeights) n 0) → two ≡ handOn a m ws
+pub both-added : (a : Arcs) (m : ℕ) (ws : List ℕ) (one two : List ℕ) (n h l w : ℕ) → n ≡ m → h ≡ getD (a .high) m 0 → l ≡ getD (a .low) m 0 → w ≡ getD (a .lowWeights) n 0 → one ≡ added ws h (getD ws n 0 * getD (a .highWeights) n 0) → two ≡ added one l (getD ws n 0 * w) → two ≡ handOn a m ws
 unfolding handOn
-both-added a m ws one two n h l en eh el e1 e2 = rw (e2, e1, en, eh, el)
+both-added a m ws one two n h l w en eh el ew e1 e2 = rw (e2, e1, ew, en, eh, el)
 
 -- ---------------------------------------------------------------------------
 -- The pass down is the transpose of the pass up
@@ -185,7 +180,7 @@ budget-weight {a} {n} {scales} {ws} b i h =
 -- A turn of the pass, from k records to j, one less; node is the number that the code has for the node
 
 -- the turn may call `hand_on`
-pub turn-fits : {a : Arcs} {k : ℕ} {scales : ℕ → ℕ} {ws : List ℕ} → Budget a k scales ws → k + 2 ≤ length ws → (j node : ℕ) → k ≡ suc j → node ≡ j + 2 → Handed a node ws
+pub turn-fits : {a : Arcs} {k : ℕ} {scales : ℕ → ℕ} {ws : List ℕ} → Budget a k scales ws → k + 2 ≤ length ws → (j node : ℕ) → k ≡ suc j → node ≡ j + 2 → HandsOn a node ws
 turn-fits b size j node ek en =
     let b = rw ek at b in
     rw en (b .highLess j (omega arith), b .lowLess j (omega arith), budget-weight (budget-next b (omega arith)))

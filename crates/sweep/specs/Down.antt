@@ -7,8 +7,8 @@ use lib.ListN.{length, getD, set}
 use lib.Dec.{eqb}
 use Rattle.diagram.specs.Table.{Table}
 use Rattle.decoding.specs.Decoding.{rootAt}
-use Rattle.scoring.specs.declared.roots.Roots.{Roots}
-use Rattle.scoring.specs.Value.{place, gap}
+use Rattle.weighing.specs.declared.roots.Roots.{Roots}
+use Rattle.weighing.specs.Value.{nodePosition, gap}
 use Rattle.scoring.specs.Passes.{Arcs}
 
 -- The sum of weight times value over the nodes below n
@@ -32,7 +32,7 @@ rootWeights t (suc i) ws =
     added
     (rootWeights t i ws)
     (rootAt (t .roots) i .node)
-    (rootAt (t .roots) i .reward * gap t 0 (place t (rootAt (t .roots) i .node)))
+    (rootAt (t .roots) i .reward * gap t 0 (nodePosition t (rootAt (t .roots) i .node)))
 
 -- The same from the arrays that hold the roots
 unfoldable pub rootWeightsOf : Roots → (i : ℕ) → (weights : List ℕ) → List ℕ
@@ -49,7 +49,7 @@ unfoldable pub rootWeight : Table → (m i : ℕ) → ℕ
 rootWeight t m zero = 0
 rootWeight t m (suc i) =
     rootWeight t m i
-    + cond (eqb (rootAt (t .roots) i .node) m) (rootAt (t .roots) i .reward * gap t 0 (place t (rootAt (t .roots) i .node))) 0
+    + cond (eqb (rootAt (t .roots) i .node) m) (rootAt (t .roots) i .reward * gap t 0 (nodePosition t (rootAt (t .roots) i .node))) 0
 
 -- Node m hands its weight on to its two children
 unfoldable pub handOn : Arcs → (m : ℕ) → (weights : List ℕ) → List ℕ
@@ -58,6 +58,11 @@ handOn a m ws =
     (added ws (getD (a .high) m 0) (getD ws m 0 * getD (a .highWeights) m 0))
     (getD (a .low) m 0)
     (getD ws m 0 * getD (a .lowWeights) m 0)
+
+-- Node m's children have smaller numbers, and what they are handed fits
+abbrev pub HandsOn : Arcs → (m : ℕ) → (weights : List ℕ) → Type 0
+HandsOn a m ws =
+    (getD (a .high) m 0 < m) × (getD (a .low) m 0 < m) × ((i : ℕ) → i < m → getD (handOn a m ws) i 0 ≤ 2 ^ 56)
 
 -- The weights after the nodes of the first n records have handed theirs on, the last one first. The weights to begin with may be any.
 unfoldable pub passDown : Arcs → (records : ℕ) → (weights : List ℕ) → List ℕ

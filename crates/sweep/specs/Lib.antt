@@ -1,4 +1,4 @@
--- The pass down, the drops, the checks that the services share, and what the enums of this crate stand for.
+-- The pass down, the drops, and what the enum of this crate stands for.
 pub mod Down
 pub mod Drops
 pub mod Answer

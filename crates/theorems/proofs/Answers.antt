@@ -5,7 +5,7 @@ use native.Mathlib.Omega.{arith}
 use mathlib.Core.Path.{_≡_, refl, ap, sym}
 use mathlib.Core.List.{List}
 use Rattle.diagram.specs.Services.{Outcome, refused, answered, Reading, Sweeping, Filtering, Searching}
-use Rattle.diagram.specs.declared.refusal.Refusal.{Refusal}
+use Rattle.terms.specs.declared.refusal.Refusal.{Refusal}
 use Rattle.diagram.proofs.Checked.{answered-not-refused}
 use Rattle.reading.specs.declared.answer.ReadAnswer.{ReadAnswer}
 use Rattle.reading.specs.declared.answer.ReadAnswer.the-variants as read
@@ -15,9 +15,10 @@ use Rattle.scoring.specs.declared.answer.ScoreAnswer.the-variants as score
 use Rattle.scoring.specs.Answer as scores
 use Rattle.sweep.specs.declared.answer.SweepAnswer.{SweepAnswer}
 use Rattle.sweep.specs.declared.answer.SweepAnswer.the-variants as sweep
-use Rattle.sweep.specs.declared.answer.FilterAnswer.{FilterAnswer}
-use Rattle.sweep.specs.declared.answer.FilterAnswer.the-variants as filter
-use Rattle.sweep.specs.Answer.{sweepOf, filterOf}
+use Rattle.filtering.specs.declared.answer.FilterAnswer.{FilterAnswer}
+use Rattle.filtering.specs.declared.answer.FilterAnswer.the-variants as filter
+use Rattle.filtering.specs.Answer.{filterOf}
+use Rattle.sweep.specs.Answer.{sweepOf}
 use Rattle.search.specs.declared.answer.Finding.{Finding}
 use Rattle.search.specs.declared.answer.SearchAnswer.{SearchAnswer}
 use Rattle.search.specs.declared.answer.SearchAnswer.the-variants as search

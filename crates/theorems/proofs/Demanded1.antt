@@ -16,15 +16,16 @@ use Rattle.diagram.specs.Visits.{visitCount}
 use Rattle.diagram.specs.Checks.{jobFault, jobChecks, scoreChecks, sweepChecks, filterChecks, searchChecks}
 use Rattle.diagram.specs.Services.{Outcome, refused, answered, written, reading, Searching, scoreOutcome, sweepOutcome, sweepBuffer, filtering, filterOutcome, filterBuffer, searching, searchOutcome, searchBuffer}
 use Rattle.diagram.specs.Printout.{refusalText, planText, searchText, jobOutcome, jobKits, programOutcome, printout}
-use Rattle.diagram.specs.declared.refusal.Refusal.{Refusal}
+use Rattle.terms.specs.declared.refusal.Refusal.{Refusal}
 use Rattle.diagram.proofs.Checked.{checked-passes, checked-stops, checked-end, answered-not-refused, read-reading, read-passed}
 use Rattle.reading.specs.declared.answer.ReadAnswer.the-variants as read-answer
 use Rattle.reading.specs.Answer as reads
 use Rattle.scoring.specs.declared.answer.ScoreAnswer.the-variants as score-answer
 use Rattle.scoring.specs.Answer as scores
 use Rattle.sweep.specs.declared.answer.SweepAnswer.the-variants as sweep-answer
-use Rattle.sweep.specs.declared.answer.FilterAnswer.the-variants as filter-answer
-use Rattle.sweep.specs.Answer.{sweepOf, filterOf}
+use Rattle.filtering.specs.declared.answer.FilterAnswer.the-variants as filter-answer
+use Rattle.filtering.specs.Answer.{filterOf}
+use Rattle.sweep.specs.Answer.{sweepOf}
 use Rattle.search.specs.declared.answer.SearchAnswer.the-variants as search-answer
 use Rattle.search.specs.Answer.{searchOf}
 use Rattle.theorems.specs.Reasons.{Request, Reason, noWayPasses, noCandidate, numberOf, Wrong, fileReasons, scoreReasons, sweepReasons, filterReasons, searchReasons, programReasons, at-first, no-row, passes-row}

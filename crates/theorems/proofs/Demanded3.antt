@@ -16,7 +16,7 @@ use Rattle.diagram.specs.Score.{score}
 use Rattle.diagram.specs.Plans.{completions, openTaken, isOpen, upperBound, derivative, derivatives, noneOf, passing, forced, forcedPlan, countOf, forcedCount}
 use Rattle.diagram.specs.Checks.{planMarkFault}
 use Rattle.diagram.specs.Services.{refused, answered, written, reading, Sweeping, Filtering, sweepOutcome, filtering, filterOutcome, filterBuffer}
-use Rattle.diagram.specs.declared.refusal.Refusal.{Refusal}
+use Rattle.terms.specs.declared.refusal.Refusal.{Refusal}
 use Rattle.diagram.proofs.Every.{both, and-true-both, both-ways}
 use Rattle.diagram.proofs.Places.{sequence-length, sequence-at, no-place}
 use Rattle.diagram.proofs.Checked.{Passed, read-passed}
@@ -24,9 +24,10 @@ use Rattle.diagram.proofs.Rising.{drop-le-bound}
 use Rattle.reading.proofs.Accepted.{passed-formed, passed-monotone}
 use Rattle.sweep.specs.declared.answer.SweepAnswer.{SweepAnswer}
 use Rattle.sweep.specs.declared.answer.SweepAnswer.the-variants as sweep
-use Rattle.sweep.specs.declared.answer.FilterAnswer.{FilterAnswer}
-use Rattle.sweep.specs.declared.answer.FilterAnswer.the-variants as filter
-use Rattle.sweep.specs.Answer.{sweepOf, filterOf}
+use Rattle.filtering.specs.declared.answer.FilterAnswer.{FilterAnswer}
+use Rattle.filtering.specs.declared.answer.FilterAnswer.the-variants as filter
+use Rattle.filtering.specs.Answer.{filterOf}
+use Rattle.sweep.specs.Answer.{sweepOf}
 use Rattle.theorems.specs.Plans.{LegalMarking, Open, NonePasses, NoneLeaves}
 use Rattle.theorems.specs.Reasons.{Accepted}
 use Rattle.theorems.specs.Demand3.{refused-31, SweepHolds, FilterHolds, Demand3}

@@ -8,7 +8,7 @@ use Rattle.diagram.specs.Words.{wordAt, fieldP, fieldQ, fieldR}
 use Rattle.diagram.specs.Table.{tableOf, variableCount, recordCount, choiceCount, scale}
 use Rattle.diagram.specs.Services.{answered, Searching, readOutcome, scoreOutcome, sweepOutcome, sweepBuffer, filterOutcome, filterBuffer, searchOutcome, searchBuffer}
 use Rattle.diagram.specs.Printout.{refusalText, planText, printout}
-use Rattle.diagram.specs.declared.refusal.Refusal.{Refusal}
+use Rattle.terms.specs.declared.refusal.Refusal.{Refusal}
 use Rattle.reading.specs.declared.answer.ReadAnswer.{ReadAnswer}
 use Rattle.reading.specs.declared.answer.ReadAnswer.the-variants as read-answer
 use Rattle.reading.specs.Answer as reading
@@ -17,9 +17,10 @@ use Rattle.scoring.specs.declared.answer.ScoreAnswer.the-variants as score-answ
 use Rattle.scoring.specs.Answer as scoring
 use Rattle.sweep.specs.declared.answer.SweepAnswer.{SweepAnswer}
 use Rattle.sweep.specs.declared.answer.SweepAnswer.the-variants as sweep-answer
-use Rattle.sweep.specs.declared.answer.FilterAnswer.{FilterAnswer}
-use Rattle.sweep.specs.declared.answer.FilterAnswer.the-variants as filter-answer
-use Rattle.sweep.specs.Answer.{sweepOf, filterOf}
+use Rattle.filtering.specs.declared.answer.FilterAnswer.{FilterAnswer}
+use Rattle.filtering.specs.declared.answer.FilterAnswer.the-variants as filter-answer
+use Rattle.filtering.specs.Answer.{filterOf}
+use Rattle.sweep.specs.Answer.{sweepOf}
 use Rattle.search.specs.declared.answer.Finding.{Finding}
 use Rattle.search.specs.declared.answer.SearchAnswer.{SearchAnswer}
 use Rattle.search.specs.declared.answer.SearchAnswer.the-variants as search-answer

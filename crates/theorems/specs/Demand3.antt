@@ -13,9 +13,10 @@ use Rattle.diagram.specs.Plans.{openTaken, countOf}
 use Rattle.diagram.specs.Services.{sweepOutcome, sweepBuffer, filterOutcome, filterBuffer}
 use Rattle.sweep.specs.declared.answer.SweepAnswer.{SweepAnswer}
 use Rattle.sweep.specs.declared.answer.SweepAnswer.the-variants.{Bound}
-use Rattle.sweep.specs.declared.answer.FilterAnswer.{FilterAnswer}
-use Rattle.sweep.specs.declared.answer.FilterAnswer.the-variants.{Forced, Refused}
-use Rattle.sweep.specs.Answer.{sweepOf, filterOf}
+use Rattle.filtering.specs.declared.answer.FilterAnswer.{FilterAnswer}
+use Rattle.filtering.specs.declared.answer.FilterAnswer.the-variants.{Forced, Refused}
+use Rattle.filtering.specs.Answer.{filterOf}
+use Rattle.sweep.specs.Answer.{sweepOf}
 use Rattle.theorems.specs.Plans.{LegalMarking, Open, NonePasses, NoneLeaves}
 use Rattle.theorems.specs.Reasons.{Accepted}
 

@@ -5,7 +5,7 @@ ghost use lib.ListN.{length};
 ghost use Rattle.diagram.specs.Printout.{decimal};
 ghost use Rattle.writing.specs.Wrote.{Wrote};
 
-// Writes a number in decimal from a place on, and answers the place after it. Whoever calls has 20 places there, which are
+// Writes a number in decimal from an index on, and answers the index after it. Whoever calls has 20 bytes there, which are
 // enough for every number. The last digit is found first, so the digits are put into a room from its end, and copied.
 pub fn put_decimal(out: &mut [u8], at: usize, n: u64) -> usize
     requires { ⌜ at + 20 ≤ length (now out) ⌝ }

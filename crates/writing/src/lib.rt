@@ -1,4 +1,4 @@
-// Text written into a buffer from a place on: words, and numbers in decimal.
+// Text written into a buffer from an index on: words, and numbers in decimal.
 mod decimal;
 mod words;
 

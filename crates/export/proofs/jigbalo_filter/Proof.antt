@@ -1,6 +1,6 @@
 -- `jigbalo_filter` meets its contract: what `filter` answers is handed back, and the buffer is left as `filter` leaves it. Assumes nothing.
 use borrow.Author.Needs.{needs}
-use Rattle.sweep.specs.Answer.{filterOf}
+use Rattle.filtering.specs.Answer.{filterOf}
 use Rattle.export.proofs.Handing.{known-with, refused-number, refused-place, refused-value, answered-number, answered-place, answered-value}
 use Rattle.export.proofs.jigbalo_filter.Statement.{statement}
 use Rattle.export.proofs.jigbalo_filter.Tie as tie

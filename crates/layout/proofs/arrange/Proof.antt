@@ -1,36 +1,105 @@
--- `arrange` meets its contract: the arrays hold the table and the plan. Assumes nothing.
+-- `arrange` meets its contract: the arrays hold the table and the plan, and what is laid out is the table, in order. Assumes nothing.
+use Prim.Native.Nat.{ℕ, _≤_, _<_}
 use native.Mathlib.Omega.{arith}
-use mathlib.Core.Path.{refl}
-use Rattle.decoding.proofs.Standing.{variables-in}
+use mathlib.Core.Path.{_≡_, refl, ap, sym}
+use lib.ListN.{length, getD}
+use Rattle.diagram.specs.Table.{Root}
+use Rattle.decoding.specs.Decoding.{tableIn, rootAt}
+use Rattle.decoding.proofs.Standing.{variables-in, roots-in, root-in}
+use Rattle.weighing.proofs.HeldRoots.{records-few}
+use Rattle.scoring.specs.Passes.{Marked}
 use Rattle.scoring.proofs.Bounding.{marked}
-use Rattle.layout.specs.Layout.{Weighed}
-use borrow.Author.Needs.{needs}
+use Rattle.scoring.proofs.Passing.{position-within}
+use Rattle.scoring.proofs.Gaining.{losses-fit}
+use Rattle.layout.specs.Layout.{nodesInOrder}
+use Rattle.layout.proofs.Arranging.{nodes-within, room-for-arcs, layered}
+use Rattle.layout.proofs.Ordered.{order-is, ending}
 use Rattle.layout.proofs.arrange.Statement.{statement}
 use Rattle.layout.proofs.arrange.Tie as tie
 
-lay-out-requires : tie.Need-lay-out-requires
-lay-out-requires c κs = (c .before .before .before .pre .0, (refl, refl))
+-- there are records, and few
+few : (c : tie.Start) → (1 ≤ c .args .t1 .records) × (c .args .t1 .records ≤ 254)
+few c =
+    let r = records-few (c .pre .0) in
+    (r .0, omega (arith, r .1))
 
-marks-by-position-requires : tie.Need-marks-by-position-requires
-marks-by-position-requires c κs =
-    let pre = c .before .before .before .before .pre in
-    (omega (arith, variables-in (c .before .before .before .before .args .table), pre .0 .valid .variables), pre .1 .0)
+-- the number of variables
+variables : (c : tie.Start) → c .args .t1 .variables ≡ length (tableIn (c .args .t1) .variables)
+variables c = sym (variables-in (c .args .t1))
 
 -- the arrays hold the table and the plan
-holds : (c : tie.After-marks-by-position) → let arcs = c .before .lay-out .last .1 in Weighed (c .before .before .before .before .before .args .table) (c .before .before .before .before .before .args .plan .now) (c .before .lay-out .result) (arcs .0) (arcs .1 .0) (c .marks-by-position .result)
+holds : (c : tie.After-value-plan) → let t = c .before .before .before .before .before .args .t1 in Marked (tableIn t) (c .before .before .before .before .before .args .plan .now) (t .records) (t .positions) (t .high) (t .low) (c .value-plan .last .1 .1 .0) (c .value-plan .result .marks)
 holds c =
     let pre = c .before .before .before .before .before .pre in
-    let laid = c .before .lay-out .ensures in
-    record {
-      marked = marked (pre .0) _ _ _ (pre .1 .0) (pre .1 .1) (laid .0) (laid .1 .0) (c .marks-by-position .ensures);
-      entering = laid .1 .1;
-    }
+    let valued = c .value-plan .ensures in
+    marked (pre .0) _ (pre .1 .0) (pre .1 .1) (valued .arcs) (valued .marks)
 
-in-order-requires : tie.Need-in-order-requires
-in-order-requires c κs = (c .before .before .before .before .before .before .before .before .pre .0, (_, holds (c .before .before .before)))
+-- a root's node
+root-node : (c : tie.After-value-plan) (k : ℕ) → k < c .value-plan .result .roots .count → let t = c .before .before .before .before .before .args .t1 in getD (t .nodes) k 0 ≡ rootAt (tableIn t .roots) k .node
+root-node c k h =
+    let d = c .before .before .before .before .before .args .t1 in
+    sym (ap (λ (r : Root). r .node) (root-in d k (omega (arith, roots-in d, c .value-plan .ensures .roots .all))))
+
+value-plan-requires : tie.Need-value-plan-requires
+value-plan-requires c κs =
+    let pre = c .before .before .before .before .pre in
+    (pre .0, (pre .1, (refl, refl, refl)))
+
+order-records-requires : tie.Need-order-records-requires
+order-records-requires c κs =
+    let start = c .before .before .before .before .before .before .before .before .before in
+    (few start .1, omega (arith, variables start, holds (c .before .before .before .before) .few))
+
+-- the nodes in order
+ordered : (c : tie.After-order-records) → c .order-records .result .list ≡ nodesInOrder (c .before .before .before .before .before .before .before .before .before .before .args .t1)
+ordered c = order-is (holds (c .before .before .before .before .before)) (variables (c .before .before .before .before .before .before .before .before .before .before)) (c .order-records .ensures .list)
+
+lay-arcs-requires : tie.Need-lay-arcs-requires
+lay-arcs-requires c κs =
+    let start = c .before .before .before .before .before .before .before .before .before .before .before .before .before .before in
+    let m = holds (c .before .before .before .before .before .before .before .before .before) in
+    let roots = c .before .before .before .before .before .before .before .before .before .value-plan .ensures .roots in
+    let monotone = start .pre .0 .valid .monotone in
+    let n = few start in
+    let o = ordered (c .before .before .before .before) in
+    ((n .1, roots .few, nodes-within m monotone (n .0) roots o), (position-within m, room-for-arcs m monotone (n .0) roots o (start .args .t1 .nodes)))
+
+losses-requires : tie.Need-losses-requires
+losses-requires c κs =
+    let at = c .before .before .before .before .before .before .before .before .before .before .before .before .before .before in
+    (holds at .size .1, losses-fit (holds at) (at .value-plan .ensures .values) (c .before .before .before .before .before .before .before .before .before .before .before .before .before .before .before .before .before .before .before .pre .0 .valid .monotone))
+
+losses-by-rank-requires : tie.Need-losses-by-rank-requires
+losses-by-rank-requires c κs =
+    let start = c .before .before .before .before .before .before .before .before .before .before .before .before .before .before .before .before .before .before .before .before .before .before .before in
+    let at = c .before .before .before .before .before .before .before .before .before .before .before .before .before .before .before .before .before .before in
+    let n = few start in
+    (n .1, nodes-within (holds at) (start .pre .0 .valid .monotone) (n .0) (at .value-plan .ensures .roots) (ordered (c .before .before .before .before .before .before .before .before .before .before .before .before .before)))
 
 returns : tie.Need-returns
-returns c = c .in-order .ensures _ (holds (c .before .before .before .before))
+returns c =
+    let start = c .before .before .before .before .before .before .before .before .before .before .before .before .before .before .before .before .before .before .before .before .before .before .before .before .before .before .before .before in
+    let d = start .args .t1 in
+    let valid = start .pre .0 .valid in
+    let valued = c .before .before .before .before .before .before .before .before .before .before .before .before .before .before .before .before .before .before .before .before .before .before .before .value-plan .ensures in
+    let m = holds (c .before .before .before .before .before .before .before .before .before .before .before .before .before .before .before .before .before .before .before .before .before .before .before) in
+    let nodes = c .before .before .before .before .before .before .before .before .before .before .before .before .before .before .before .before .before .before .order-records in
+    record {
+      order = _;
+      arranged = record {
+        bounded = valued .bound;
+        layered = layered m (valid .monotone) (few start .0) (valued .roots) (ordered (c .before .before .before .before .before .before .before .before .before .before .before .before .before .before .before .before .before .before)) (valued .values) (d .nodes) (root-node (c .before .before .before .before .before .before .before .before .before .before .before .before .before .before .before .before .before .before .before .before .before .before .before)) (c .before .before .before .before .before .before .before .before .before .before .before .before .before .lay-arcs .ensures) (c .before .before .before .before .before .before .before .before .losses .ensures) (c .before .before .before .before .losses-by-rank .ensures);
+        ending = ending m (variables start) (nodes .ensures .list) (valid .variables .0) (nodes .ensures .starts);
+      };
+    }
 
 pub arrange-spec : {M : Type 1} → statement M
-arrange-spec = tie.close (tie.spec lay-out-requires marks-by-position-requires in-order-requires returns)
+arrange-spec =
+    tie.close
+    (tie.spec
+    value-plan-requires
+    order-records-requires
+    lay-arcs-requires
+    losses-requires
+    losses-by-rank-requires
+    returns)

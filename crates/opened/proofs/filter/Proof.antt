@@ -43,17 +43,17 @@ use denote.Triple.Walked.{Stays, stay-none, stay-none-slice, gave-slice, walkOf,
 use denote.Exit.{yes}
 use Rattle.opened.proofs.Promises.{both}
 use Rattle.diagram.specs.Services.{filterOutcome, filterBuffer}
-use Rattle.sweep.specs.Answer.{filterOf}
+use Rattle.filtering.specs.Answer.{filterOf}
 use Rattle.opened.specs.declared.table.Table.{Table}
 use Rattle.opened.proofs.table.Table as T₀
 use Rattle.opened.proofs.table.Table.Laws as T₀′
-use Rattle.sweep.specs.declared.answer.FilterAnswer.{FilterAnswer}
-use Rattle.sweep.proofs.answer.FilterAnswer as T₁
-use Rattle.sweep.proofs.answer.FilterAnswer.Laws as T₁′
-use Rattle.sweep.proofs.filter as core
-use Rattle.sweep.proofs.filter.Symbol as core-def
-use Rattle.sweep.proofs.filter.Symbol.{name as #sweep·filter}
-use Rattle.sweep.proofs.filter.Met as core-thm
+use Rattle.filtering.specs.declared.answer.FilterAnswer.{FilterAnswer}
+use Rattle.filtering.proofs.answer.FilterAnswer as T₁
+use Rattle.filtering.proofs.answer.FilterAnswer.Laws as T₁′
+use Rattle.filtering.proofs.filter as core
+use Rattle.filtering.proofs.filter.Symbol as core-def
+use Rattle.filtering.proofs.filter.Symbol.{name as #filtering·filter}
+use Rattle.filtering.proofs.filter.Met as core-thm
 use Rattle.opened.proofs.filter.Key.{name as #opened·filter}
 use Rattle.opened.proofs.filter as me
 use Rattle.opened.proofs.filter.Statement as stated
@@ -115,7 +115,7 @@ module _ {M : Type 1} (𝓤 : URA M) (H : Heap 𝓤) (A : Atoms 𝓤) (W : Given
   promised : (r : FilterAnswer) (zs : Unit {0} × (Unit {0} × (Unit {0} × (List ℕ × (Unit {0}))))) → filterOf r (zs .1 .1 .1 .0) ≡ filterOutcome (now (t .bytes)) (now plan) percent (length out) → zs .1 .1 .1 .0 ≡ filterBuffer (now (t .bytes)) (now plan) percent out → ent 𝓤 (emp 𝓤) (me.clauses 𝓤 H A at-mem run κs arg .ensures tt (r) (atExit me.ended κs arg (tt, (tt, (tt, (zs .1 .1 .1 .0, tt))))))
   promised r zs e₀ e₁ = both 𝓤 (factI 𝓤 _ (emp 𝓤) (e₀)) (factI 𝓤 _ (emp 𝓤) (e₁))
 
-  module _ (t-wt : Holds (hasTy (T₀′.mir (named 0)) (t-val)) × WT (t-val)) (plan-is : Is (ShrSlice (named 1) κ₁ u8) plan (plan-val ∷ [])) (percent-fits : percent < 2 ^ 32) (out-room : Room u8 (length out)) (C : Calls 𝓤 H) (Λ : Loops 𝓤 H) (fm : FmC 𝓤 H (W .laws) C) (known : Triple 𝓤 (C #sweep·filter) (Core 𝓤 H A at-mem run)) where
+  module _ (t-wt : Holds (hasTy (T₀′.mir (named 0)) (t-val)) × WT (t-val)) (plan-is : Is (ShrSlice (named 1) κ₁ u8) plan (plan-val ∷ [])) (percent-fits : percent < 2 ^ 32) (out-room : Room u8 (length out)) (C : Calls 𝓤 H) (Λ : Loops 𝓤 H) (fm : FmC 𝓤 H (W .laws) C) (known : Triple 𝓤 (C #filtering·filter) (Core 𝓤 H A at-mem run)) where
     walk : ent 𝓤 (onEntry 𝓤 H A me.signature κs qs arg vals) (WpFn 𝓤 H C Λ code.function (t-val ∷ plan-val ∷ vint w32 percent ∷ out-val ∷ []) Post)
     walk =
         qed W ((‵ (flft κ₀ q₀) ⊛ ‵ (flft κ₁ q₁) ⊛ ‵ (flft κ₂ q₂) ⊛ ‵ ftrue) ∷ ‵ (owns (T₀.the-row (namedLft 3 0 tt κs) ∷ ShrSlice (named 1) κ₁ u8 ∷ u32 ∷ MutSlice (named 2) κ₂ u8 ∷ []) arg vals) ∷ []) ∵ enter ! C Λ code.function (t-val ∷ plan-val ∷ vint w32 percent ∷ out-val ∷ []) _ $ alloc1 ! (λ l₀. alloc1 ! (λ l₁. alloc1 ! (λ l₂. alloc1 ! (λ l₃. alloc1 ! (λ l₄. alloc1 ! (λ l₅. alloc1 ! (λ l₆. alloc1 ! (λ l₇. alloc0 ! $
@@ -160,11 +160,11 @@ module _ {M : Type 1} (𝓤 : URA M) (H : Heap 𝓤) (A : Atoms 𝓤) (W : Given
         move ! (4 ∷ 0 ∷ []) $ join ! $ move ! (1 ∷ 3 ∷ []) $ join ! $ move ! (1 ∷ 0 ∷ []) $ join ! $ done !))))))))))))))))
 
 module _ {M : Type 1} (𝓤 : URA M) (H : Heap 𝓤) (A : Atoms 𝓤) (W : Given 𝓤 H A) (at-mem : Memory → SProp 𝓤) (run : Routine → Fun 𝓤) where
-  me-walks : (C : Calls 𝓤 H) (Λ : Loops 𝓤 H) → FmC 𝓤 H (W .laws) C → Triple 𝓤 (C #sweep·filter) (Core 𝓤 H A at-mem run) → Walks 𝓤 H A me.ended stayed (WpFn 𝓤 H C Λ code.function) (me.clauses 𝓤 H A at-mem run)
+  me-walks : (C : Calls 𝓤 H) (Λ : Loops 𝓤 H) → FmC 𝓤 H (W .laws) C → Triple 𝓤 (C #filtering·filter) (Core 𝓤 H A at-mem run) → Walks 𝓤 H A me.ended stayed (WpFn 𝓤 H C Λ code.function) (me.clauses 𝓤 H A at-mem run)
   me-walks C Λ fm known = walked 𝓤 H A me.ended stayed (me.clauses 𝓤 H A at-mem run) (WpFn 𝓤 H C Λ code.function) (λ κs. (LL.vals (T₀.the-type (namedLft 3 0 tt κs)) (T₀′.the-laws (namedLft 3 0 tt κs)), (slice-vals, (uint-vals w32, (slice-vals, tt))))) (λ κs. (LL.tells (T₀.the-type (namedLft 3 0 tt κs)) (T₀′.the-laws (namedLft 3 0 tt κs)), (shr-slice-tells (named 1) (κs .1 .0) u8, (uint-tells w32, (mut-slice-tells (named 2) (κs .1 .1 .0) u8, tt)))))
       (λ κs qs bounds a g are. via 𝓤 _ (fst∗ 𝓤 _ (emp 𝓤)) (walk 𝓤 H A W at-mem run (κs .0) (κs .1 .0) (κs .1 .1 .0) (qs .0) (qs .1 .0) (qs .1 .1 .0) (a .0) (a .1 .0) (a .1 .1 .0) (a .1 .1 .1 .0 .ptr .0) (a .1 .1 .1 .0 .ptr .1) (a .1 .1 .1 .0 .name) (a .1 .1 .1 .0 .now) (LL.lawful (T₀.the-type (namedLft 3 0 tt κs)) (T₀′.the-laws (namedLft 3 0 tt κs)) 𝓤 H A W .typed (a .0) _ (are .0) .0) (are .1 .0) (are .1 .1 .0 .1) (are .1 .1 .1 .0 .0 .1) C Λ fm known))
 
-me-meets : {M : Type 1} (𝓤 : URA M) (H : Heap 𝓤) (A : Atoms 𝓤) (W : Given 𝓤 H A) (at-mem : Memory → SProp 𝓤) (run : Routine → Fun 𝓤) (𝓣 : Tables 𝓤 H) → Triple 𝓤 (𝓣 .C #sweep·filter) (Core 𝓤 H A at-mem run)
+me-meets : {M : Type 1} (𝓤 : URA M) (H : Heap 𝓤) (A : Atoms 𝓤) (W : Given 𝓤 H A) (at-mem : Memory → SProp 𝓤) (run : Routine → Fun 𝓤) (𝓣 : Tables 𝓤 H) → Triple 𝓤 (𝓣 .C #filtering·filter) (Core 𝓤 H A at-mem run)
     → Meets 𝓤 H A me.signature (WpFn 𝓤 H (𝓣 .C) (𝓣 .Λ) code.function) (me.spec 𝓤 H A at-mem run)
 me-meets 𝓤 H A W at-mem run 𝓣 known =
     walk-meets 𝓤 H A me.ended stayed W (goes-none 𝓤 H A W 3 (λ κs. T₀.the-row (namedLft 3 0 tt κs)) yes (λ κs x f. refl), (goes-none-slice 𝓤 H A W 3 (1 ∷ []) tt (plain (λ _. u8)) yes, (goes-none 𝓤 H A W 3 (λ _. u32) yes (λ κs x f. refl), (goes-gave-slice 𝓤 H A W 3 2 tt (plain (λ _. u8)), tt)))) (me.clauses 𝓤 H A at-mem run)
@@ -176,4 +176,4 @@ filter-spec 𝓤 H 𝓜 𝓖 𝓡 =
     entered 𝓤 H (tripleOf 𝓤 H (𝓖 .A) me.signature (me.spec 𝓤 H (𝓖 .A) (𝓜 .mem) (𝓡 .run)))
     (tables 𝓤 H 𝓜 𝓡 code.env .C) (tables 𝓤 H 𝓜 𝓡 code.env .Λ) #opened·filter code.function (code.unfolded 𝓤 H 𝓜 𝓡)
     (me-meets 𝓤 H (𝓖 .A) (givenOf 𝓤 H 𝓜 𝓖) (𝓜 .mem) (𝓡 .run) (tablesOf 𝓤 H 𝓜 (tables 𝓤 H 𝓜 𝓡 code.env))
-    (cited 𝓤 H (Core 𝓤 H (𝓖 .A) (𝓜 .mem) (𝓡 .run)) 𝓜 𝓡 code.env #sweep·filter core-def.routine code.calls-sweep·filter (core-thm.met 𝓤 H 𝓜 𝓖 𝓡)))
+    (cited 𝓤 H (Core 𝓤 H (𝓖 .A) (𝓜 .mem) (𝓡 .run)) 𝓜 𝓡 code.env #filtering·filter core-def.routine code.calls-filtering·filter (core-thm.met 𝓤 H 𝓜 𝓖 𝓡)))

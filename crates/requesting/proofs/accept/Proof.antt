@@ -1,5 +1,6 @@
 -- `accept` meets its contract: what reading refuses is refused, then what comes with the file decides. Assumes nothing.
 use Rattle.reading.proofs.Outcomes.{refused-read, table-read, table-choices, reads-refused}
+use Rattle.requesting.proofs.Checking.{request-finds}
 use Rattle.requesting.proofs.Requests.{request-refused, request-turned, reads-found}
 use borrow.Author.Needs.{needs}
 use Rattle.requesting.proofs.accept.Statement.{statement}
@@ -36,7 +37,7 @@ returns-2 c =
     let k = c .before .before .before in
     let read = k .before .before .before .read-table .ensures in
     let t = k .before .answer .given .1 in
-    let found = c .before .before .check-request .ensures _ (table-choices _ (read .outcome) _ t) in
+    let found = request-finds _ _ (table-choices _ (read .outcome) _ t) _ _ _ (c .before .before .check-request .ensures) in
     reads-found _ _ _ _ _ read _ t found (c .enum-told .given .1)
 
 turned-away-requires-2 : tie.Need-turned-away-requires-2
@@ -47,7 +48,7 @@ returns-3 c =
     let k = c .before .before .before .before .before in
     let read = k .before .before .before .read-table .ensures in
     let t = k .before .answer .given .1 in
-    let found = c .before .before .before .before .check-request .ensures _ (table-choices _ (read .outcome) _ t) in
+    let found = request-finds _ _ (table-choices _ (read .outcome) _ t) _ _ _ (c .before .before .before .before .check-request .ensures) in
     reads-refused _ _ (c .turned-away2 .ensures) (request-turned _ _ _ _ _ (table-read _ (read .outcome) _ t) found _ (c .before .before .r .given .1))
 
 pub accept-spec : {M : Type 1} → statement M

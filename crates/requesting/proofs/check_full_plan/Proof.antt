@@ -18,9 +18,9 @@ and-then-requires-2 : tie.Need-and-then-requires-2
 and-then-requires-2 c κs = search needs
 
 returns : tie.Need-returns
-returns c s e =
+returns c =
     let at-21 = c .before .before in
-    full-plan-is _ s e (c .and-then2 .ensures) refl (c .before .full-plan-fault .ensures) (at-21 .and-then .ensures) refl (at-21 .before .unequal .ensures)
+    full-plan-is _ _ (c .and-then2 .ensures) refl (c .before .full-plan-fault .ensures) (at-21 .and-then .ensures) refl (at-21 .before .unequal .ensures)
 
 pub check-full-plan-spec : {M : Type 1} → statement M
 check-full-plan-spec =

@@ -18,9 +18,9 @@ and-then-requires-2 : tie.Need-and-then-requires-2
 and-then-requires-2 c κs = search needs
 
 returns : tie.Need-returns
-returns c s e =
+returns c =
     let at-21 = c .before .before in
-    plan-is _ s e (c .and-then2 .ensures) refl (c .before .mark-fault .ensures) (at-21 .and-then .ensures) refl (at-21 .before .unequal .ensures)
+    plan-is _ _ (c .and-then2 .ensures) refl (c .before .mark-fault .ensures) (at-21 .and-then .ensures) refl (at-21 .before .unequal .ensures)
 
 pub check-plan-spec : {M : Type 1} → statement M
 check-plan-spec =

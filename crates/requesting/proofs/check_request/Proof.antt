@@ -27,10 +27,10 @@ and-then-requires-3 : tie.Need-and-then-requires-3
 and-then-requires-3 c κs = search needs
 
 returns : tie.Need-returns
-returns c s e =
+returns c =
     let at-24 = c .before .before in
     let at-23 = at-24 .before .before in
-    request-is _ s e _ _ _ (c .and-then3 .ensures) refl (c .before .unequal .ensures) (at-24 .and-then2 .ensures) refl (at-24 .before .above2 .ensures) refl (at-23 .and-then .ensures) refl (at-23 .before .above .ensures) refl (at-23 .before .before .check-plan .ensures s e)
+    request-is _ _ _ _ _ (c .and-then3 .ensures) refl (c .before .unequal .ensures) (at-24 .and-then2 .ensures) refl (at-24 .before .above2 .ensures) refl (at-23 .and-then .ensures) refl (at-23 .before .above .ensures) refl (at-23 .before .before .check-plan .ensures)
 
 pub check-request-spec : {M : Type 1} → statement M
 check-request-spec =

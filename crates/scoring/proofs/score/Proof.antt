@@ -7,6 +7,7 @@ use Rattle.diagram.specs.Table.{tableOf}
 use Rattle.decoding.specs.Decoding.{tableIn, Sound}
 use Rattle.steps.specs.Steps.{finding}
 use Rattle.reading.proofs.Outcomes.{refused-read, table-read, table-choices}
+use Rattle.requesting.proofs.Checking.{full-plan-finds}
 use Rattle.requesting.proofs.FullPlans.{full-legal}
 use Rattle.requesting.proofs.Requests.{score-refused, score-turned, score-answered, plan-long, plan-full}
 use Rattle.scoring.specs.Answer.{outcomeOf}
@@ -23,7 +24,7 @@ file-read c =
 plan-found : (c : tie.After-check-full-plan) → let start = c .before .before .before .before .before .before .before .before in c .check-full-plan .result ≡ finding (fullPlanChecks (start .args .plan .now)) (start .args .file .now)
 plan-found c =
     let k = c .before .before in
-    c .check-full-plan .ensures _ (table-choices _ (k .before .before .before .read-table .ensures .outcome) _ (k .before .answer .given .1))
+    full-plan-finds _ _ (table-choices _ (k .before .before .before .read-table .ensures .outcome) _ (k .before .answer .given .1)) (c .check-full-plan .ensures)
 
 read-table-requires : tie.Need-read-table-requires
 read-table-requires c κs = search needs

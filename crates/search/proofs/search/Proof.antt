@@ -13,7 +13,7 @@ use Rattle.requesting.specs.Request.{requestOutcome}
 use Rattle.requesting.proofs.Requests.{Proper, refused-request, accepted-request, accepted-proper, accepted-scale}
 use Rattle.decoding.specs.Decoding.{padTo}
 use Rattle.decoding.proofs.Kits.{kits-first}
-use Rattle.search.specs.State.{Searched}
+use Rattle.search.specs.Searched.{Searched}
 use Rattle.search.proofs.Priced.{priced-own}
 use Rattle.search.proofs.Answering.{search-turned, search-32, held-long, search-found}
 use Rattle.search.proofs.search.Statement.{statement}

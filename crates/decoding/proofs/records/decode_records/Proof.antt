@@ -8,7 +8,7 @@ use Rattle.diagram.specs.Words.{wordAt}
 use Rattle.diagram.specs.Table.{Record, recordAt, recordOf, tableOf, variableCount, recordCount}
 use Rattle.decoding.specs.Nodes.{column, Filled}
 use Rattle.decoding.proofs.Shape.{heading-records, record-at-word, record-past, shaped-formed}
-use Rattle.decoding.proofs.Columns.{fill-ends, fill-next, fill-all}
+use Rattle.decoding.proofs.Columns.{fill-ends, fill-next, fill-cleared}
 use Rattle.decoding.proofs.records.decode_records.Statement.{statement}
 use Rattle.decoding.proofs.records.decode_records.Tie as tie
 
@@ -169,11 +169,12 @@ returns : tie.Need-returns Inv-loop μ-loop
 unfolding column
 returns c =
     let l = c .before .before .before .before .before .before in
-    let inv = l .before .loop .inv in (
-      fill-all (c .before .before .before .before .clear .ensures _ _ (rw (end l) at (inv .5)) (λ k h. ap (λ (r : Record). r .position) (past l k h))),
+    let inv = l .before .loop .inv in
+    let few = inv .4 in (
+      fill-cleared (rw (end l) at (inv .5)) few (c .before .before .before .before .clear .ensures) (λ k h. ap (λ (r : Record). r .position) (past l k h)),
       (
-        fill-all (c .before .before .clear2 .ensures _ _ (rw (end l) at (inv .6)) (λ k h. ap (λ (r : Record). r .hi) (past l k h))),
-        fill-all (c .clear3 .ensures _ _ (rw (end l) at (inv .7)) (λ k h. ap (λ (r : Record). r .lo) (past l k h))),
+        fill-cleared (rw (end l) at (inv .6)) few (c .before .before .clear2 .ensures) (λ k h. ap (λ (r : Record). r .hi) (past l k h)),
+        fill-cleared (rw (end l) at (inv .7)) few (c .clear3 .ensures) (λ k h. ap (λ (r : Record). r .lo) (past l k h)),
       ),
     )
 

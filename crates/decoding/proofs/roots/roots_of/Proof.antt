@@ -1,4 +1,4 @@
--- `roots_of` meets its contract. The loop's invariant: the nodes and rewards of the first i roots are in their places, and the others 0. The measure is
+-- `roots_of` meets its contract. The loop's invariant: the nodes and rewards of the first i roots are in their cells, and the others 0. The measure is
 -- the number of roots left. Assumes nothing.
 use Prim.Native.Nat.{_+_, _-_, _≤_, _<_}
 use native.Mathlib.Nat.{zero-add}

@@ -1,4 +1,4 @@
--- `words_of` meets its contract. The loop's invariant: the words of the first p variables are in their places, and the others 0. The measure is the
+-- `words_of` meets its contract. The loop's invariant: the words of the first p variables are in their cells, and the others 0. The measure is the
 -- number of variables left. Assumes nothing.
 use Prim.Native.Nat.{_+_, _-_, _≤_, _<_}
 use native.Mathlib.Omega.{arith}

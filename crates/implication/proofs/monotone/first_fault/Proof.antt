@@ -20,14 +20,14 @@ use Rattle.implication.proofs.monotone.first_fault.Statement.{statement
 use Rattle.implication.proofs.monotone.first_fault.Tie as tie
 
 abbrev Inv-loop : tie.InvT-loop
-Inv-loop met₀ firsts₀ seconds₀ t end n k₀ met firsts seconds k =
+Inv-loop met₀ stack₀ t end n k₀ met stack k =
     (end .0 ≡ length (tableIn t .variables))
     × (n ≡ length (tableIn t .records))
-    × Stack (t .positions) (t .high) (t .low) met firsts seconds 0 0 0 0 0
+    × Stack (t .positions) (t .high) (t .low) met stack 0 0 0 0 0
     × (monotoneFaultIn (tableIn t) ≡ firstPlace (unmonotone-at (tableIn t)) (1 + length (tableIn t .variables) + k) (length (tableIn t .records) - k))
 
 abbrev μ-loop : tie.MeasureT-loop
-μ-loop met₀ firsts₀ seconds₀ t end n k₀ met firsts seconds k = n - k
+μ-loop met₀ stack₀ t end n k₀ met stack k = n - k
 
 new-requires : tie.Need-new-requires Inv-loop μ-loop
 new-requires c κs = search needs
@@ -53,21 +53,21 @@ asked-node-requires-2 : tie.Need-asked-node-requires-2 Inv-loop μ-loop
 asked-node-requires-2 c κs = in-range (c .before .before .before .before .before .before .before .before .before)
 
 meet-requires : tie.Need-meet-requires Inv-loop μ-loop
-meet-requires c κs = c .before .before .before .before .before .before .before .before .before .before .before .before .before .before .loop .inv .2 .room
+meet-requires c κs = c .before .before .before .before .before .before .before .before .before .before .before .before .before .loop .inv .2 .room
 
 -- the pair that the record asks about is met
-asked : (c : tie.After-meet Inv-loop μ-loop) → let d = c .before .before .before .before .before .before .before .before .before .before .before .before .before .before .before .before .before .args .t1 in Stack (d .positions) (d .high) (d .low) (c .meet .last .0) (c .meet .last .1 .0) (c .meet .last .1 .1 .0) (c .before .before .before .before .before .before .before .before .before .asked-node .result .0) (c .before .before .before .before .asked-node2 .result .0) 0 0 (c .meet .result)
+asked : (c : tie.After-meet Inv-loop μ-loop) → let d = c .before .before .before .before .before .before .before .before .before .before .before .before .before .before .before .before .args .t1 in Stack (d .positions) (d .high) (d .low) (c .meet .last .0) (c .meet .last .1 .0) (c .before .before .before .before .before .before .before .before .asked-node .result .0) (c .before .before .before .asked-node2 .result .0) 0 0 (c .meet .result)
 asked c =
     let e = c .meet .ensures in
-    ask (c .before .before .before .before .before .before .before .before .before .before .before .before .before .before .before .loop .inv .2) (record { m-small = search needs; n-small = search needs; end = e .0; cells = e .1 .0; ones = e .1 .1 .0; twos = e .1 .1 .1 })
+    ask (c .before .before .before .before .before .before .before .before .before .before .before .before .before .before .loop .inv .2) (record { m-small = search needs; n-small = search needs; end = e .0; cells = e .1 .0; pushes = e .1 .1 })
 
 drain-requires : tie.Need-drain-requires Inv-loop μ-loop
-drain-requires c κs = (_, _, asked (c .before .before .before .before .before .before .before))
+drain-requires c κs = (_, _, asked (c .before .before .before .before .before .before))
 
 -- what the stack says then
-found : (c : tie.After-drain Inv-loop μ-loop) → Drained (c .before .before .before .before .before .before .before .before .before .before .before .before .before .before .before .before .before .before .before .before .before .before .before .before .before .args .t1) (c .drain .last .0) (c .drain .last .1 .0) (c .drain .last .1 .1 .0) (c .before .before .before .before .before .before .before .before .before .before .before .before .before .before .before .before .before .before .before .before .before .before .before .loop .k)
+found : (c : tie.After-drain Inv-loop μ-loop) → Drained (c .before .before .before .before .before .before .before .before .before .before .before .before .before .before .before .before .before .before .before .before .before .before .before .args .t1) (c .drain .last .0) (c .drain .last .1 .0) (c .before .before .before .before .before .before .before .before .before .before .before .before .before .before .before .before .before .before .before .before .before .loop .k)
 found c =
-    drained (c .before .before .before .before .before .before .before .before .before .before .before .before .before .before .before .before .before .before .before .before .before .before .before .before .before .pre .0) (c .before .before .before .before .before .before .before .before .before .before .before .before .before .before .before .before .before .before .before .before .before .before .loop-test .taken) (c .before .before .before .before .before .before .before .before .before .before .before .before .before .before .before .before .before .asked-node .ensures) (c .before .before .before .before .before .before .before .before .before .before .before .before .asked-node2 .ensures) (search needs) (search needs) (c .drain .ensures _ _ (asked (c .before .before .before .before .before .before .before .before)))
+    drained (c .before .before .before .before .before .before .before .before .before .before .before .before .before .before .before .before .before .before .before .before .before .before .before .pre .0) (c .before .before .before .before .before .before .before .before .before .before .before .before .before .before .before .before .before .before .before .before .loop-test .taken) (c .before .before .before .before .before .before .before .before .before .before .before .before .before .before .before .asked-node .ensures) (c .before .before .before .before .before .before .before .before .before .before .asked-node2 .ensures) (search needs) (search needs) (c .drain .ensures _ _ (asked (c .before .before .before .before .before .before .before)))
 
 new-requires-2 : tie.Need-new-requires-2 Inv-loop μ-loop
 new-requires-2 c κs = search needs
@@ -85,35 +85,35 @@ is-met-requires c κs = search needs
 word-requires : tie.Need-word-requires Inv-loop μ-loop
 word-requires c κs = search needs
 
-add-t35 : tie.Need-add-t35 Inv-loop μ-loop
-add-t35 c =
-    let held = c .before .before .before .before .before .before .before .before .before .before .before .before .before .before .before .before .before .before .before .before .before .before .before .before .before .before .before .before .before .before .before .pre .0 in
-    omega (arith, held .few, held .most, c .before .before .before .before .before .before .before .before .before .before .before .before .before .before .before .before .before .before .before .before .before .before .before .before .before .before .before .before .before .before .new .ensures, c .before .before .before .before .before .before .before .before .before .before .before .before .before .before .before .before .before .before .before .before .before .before .before .before .before .before .before .before .loop-test .taken, c .word .ensures)
+add-t32 : tie.Need-add-t32 Inv-loop μ-loop
+add-t32 c =
+    let held = c .before .before .before .before .before .before .before .before .before .before .before .before .before .before .before .before .before .before .before .before .before .before .before .before .before .before .before .before .before .pre .0 in
+    omega (arith, held .few, held .most, c .before .before .before .before .before .before .before .before .before .before .before .before .before .before .before .before .before .before .before .before .before .before .before .before .before .before .before .before .new .ensures, c .before .before .before .before .before .before .before .before .before .before .before .before .before .before .before .before .before .before .before .before .before .before .before .before .before .before .loop-test .taken, c .word .ensures)
 
 returns : tie.Need-returns Inv-loop μ-loop
 unfolding faultOf
 returns c =
-    let at = c .before .before .before .before .before .before .before .before .before .before .before .before .before .before .before .before .before .before .before .before .before .before .before .before .before .before .before .before .before .loop in
-    let t = tableIn (c .before .before .before .before .before .before .before .before .before .before .before .before .before .before .before .before .before .before .before .before .before .before .before .before .before .before .before .before .before .before .before .args .t1) in
+    let at = c .before .before .before .before .before .before .before .before .before .before .before .before .before .before .before .before .before .before .before .before .before .before .before .before .before .before .before .loop in
+    let t = tableIn (c .before .before .before .before .before .before .before .before .before .before .before .before .before .before .before .before .before .before .before .before .before .before .before .before .before .before .before .before .before .args .t1) in
     let v = length (t .variables) in
     let n = length (t .records) in
     let place : c .word .result + at .k ≡ 1 + v + at .k = omega (arith, c .word .ensures, at .inv .0) in
     let fault = found (c .before .before .before .before .before .before) .fault (tested-one _ 1 0 (ends (c .before .before)) (c .before .if1 .taken)) in
-    rw (at .inv .3, place-here (unmonotone-at t) (1 + v) n (at .k) (omega (arith, at .inv .1, c .before .before .before .before .before .before .before .before .before .before .before .before .before .before .before .before .before .before .before .before .before .before .before .before .before .before .before .before .loop-test .taken)) (unmonotone-test t (at .k) fault)) (ap At place)
+    rw (at .inv .3, place-here (unmonotone-at t) (1 + v) n (at .k) (omega (arith, at .inv .1, c .before .before .before .before .before .before .before .before .before .before .before .before .before .before .before .before .before .before .before .before .before .before .before .before .before .before .loop-test .taken)) (unmonotone-test t (at .k) fault)) (ap At place)
 
 add-k : tie.Need-add-k Inv-loop μ-loop
-add-k c = omega (arith, c .before .before .before .before .before .before .before .before .before .before .before .before .before .before .before .before .before .before .before .before .before .before .before .before .before .before .before .before .before .before .pre .0 .most, c .before .before .before .before .before .before .before .before .before .before .before .before .before .before .before .before .before .before .before .before .before .before .before .before .before .before .before .loop-test .taken)
+add-k c = omega (arith, c .before .before .before .before .before .before .before .before .before .before .before .before .before .before .before .before .before .before .before .before .before .before .before .before .before .before .before .before .pre .0 .most, c .before .before .before .before .before .before .before .before .before .before .before .before .before .before .before .before .before .before .before .before .before .before .before .before .before .loop-test .taken)
 
 loop-less : tie.Need-loop-less Inv-loop μ-loop
-loop-less c = omega (arith, c .before .before .before .before .before .before .before .before .before .before .before .before .before .before .before .before .before .before .before .before .before .before .before .before .before .before .before .loop-test .taken)
+loop-less c = omega (arith, c .before .before .before .before .before .before .before .before .before .before .before .before .before .before .before .before .before .before .before .before .before .before .before .before .before .loop-test .taken)
 
 loop-again : tie.Need-loop-again Inv-loop μ-loop
 loop-again c =
-    let at = c .before .before .before .before .before .before .before .before .before .before .before .before .before .before .before .before .before .before .before .before .before .before .before .before .before .before .before .before .loop in
-    let t = tableIn (c .before .before .before .before .before .before .before .before .before .before .before .before .before .before .before .before .before .before .before .before .before .before .before .before .before .before .before .before .before .before .args .t1) in
+    let at = c .before .before .before .before .before .before .before .before .before .before .before .before .before .before .before .before .before .before .before .before .before .before .before .before .before .before .loop in
+    let t = tableIn (c .before .before .before .before .before .before .before .before .before .before .before .before .before .before .before .before .before .before .before .before .before .before .before .before .before .before .before .before .args .t1) in
     let zero = tested-zero _ 1 0 (ends (c .before)) (c .if1 .left) in
     let passes = found (c .before .before .before .before .before) .passes (λ one. omega (arith, zero, one)) in
-    (at .inv .0, at .inv .1, passes .1, at .inv .3 ∙ place-next (unmonotone-at t) (1 + length (t .variables)) (length (t .records)) (at .k) (omega (arith, at .inv .1, c .before .before .before .before .before .before .before .before .before .before .before .before .before .before .before .before .before .before .before .before .before .before .before .before .before .before .before .loop-test .taken)) (unmonotone-test t (at .k) (passes .0)))
+    (at .inv .0, at .inv .1, passes .1, at .inv .3 ∙ place-next (unmonotone-at t) (1 + length (t .variables)) (length (t .records)) (at .k) (omega (arith, at .inv .1, c .before .before .before .before .before .before .before .before .before .before .before .before .before .before .before .before .before .before .before .before .before .before .before .before .before .loop-test .taken)) (unmonotone-test t (at .k) (passes .0)))
 
 returns-2 : tie.Need-returns-2 Inv-loop μ-loop
 unfolding faultOf
@@ -138,7 +138,7 @@ first-fault-spec =
     new-requires-3
     is-met-requires
     word-requires
-    add-t35
+    add-t32
     returns
     add-k
     loop-less

@@ -15,23 +15,29 @@ returns : tie.Need-returns
 returns c =
     let start = c .before .before .before .args in
     let one = tested-one _ _ _ (c .before .is-met .ensures) (c .if1 .taken) in
-    (omega (arith, one), (marked-same _ _ _ one, (pushed-none one (start .firsts .now) (start .depth) (start .m .0), pushed-none one (start .seconds .now) (start .depth) (start .n .0))))
+    (omega (arith, one), (marked-same _ _ _ one, pushed-none one (start .stack .now) (start .depth) (start .m .0) (start .n .0)))
 
 -- the pair has not been met
 fresh : (c : tie.Else1) → cell (c .before .before .before .args .met .now) (c .before .before .before .args .m .0) (c .before .before .before .args .n .0) ≡ 0
 fresh c = tested-zero _ _ _ (c .before .is-met .ensures) (c .if1 .left)
 
+mul-i : tie.Need-mul-i
+mul-i c = search needs
+
 byte-requires : tie.Need-byte-requires
 byte-requires c κs = search needs
 
-element-write-firsts : tie.Need-element-write-firsts
-element-write-firsts c = search needs
+element-write-stack : tie.Need-element-write-stack
+element-write-stack c = search needs
 
 byte-requires-2 : tie.Need-byte-requires-2
 byte-requires-2 c κs = search needs
 
-element-write-seconds : tie.Need-element-write-seconds
-element-write-seconds c = search needs
+add-stack : tie.Need-add-stack
+add-stack c = search needs
+
+element-write-stack-2 : tie.Need-element-write-stack-2
+element-write-stack-2 c = search needs
 
 mark-requires : tie.Need-mark-requires
 mark-requires c κs = (c .before .before .before .before .before .before .pre .size, fresh (c .before .before .before))
@@ -43,7 +49,7 @@ returns-2 : tie.Need-returns-2
 returns-2 c =
     let start = c .before .before .before .before .before .before .before .args in
     let none = fresh (c .before .before .before .before) in
-    (omega (arith, none), (c .mark .ensures, (pushed-one none (start .firsts .now) (start .depth) (start .m .0) (c .before .before .before .byte .ensures), pushed-one none (start .seconds .now) (start .depth) (start .n .0) (c .before .before .byte2 .ensures))))
+    (omega (arith, none), (c .mark .ensures, pushed-one none (start .stack .now) (start .depth) (start .m .0) (start .n .0) (c .before .before .before .byte .ensures) (c .before .before .byte2 .ensures)))
 
 pub meet-spec : {M : Type 1} → statement M
 meet-spec =
@@ -51,10 +57,12 @@ meet-spec =
     (tie.spec
     is-met-requires
     returns
+    mul-i
     byte-requires
-    element-write-firsts
+    element-write-stack
     byte-requires-2
-    element-write-seconds
+    add-stack
+    element-write-stack-2
     mark-requires
     add-result
     returns-2)

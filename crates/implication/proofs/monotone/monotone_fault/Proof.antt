@@ -9,8 +9,8 @@ use Rattle.implication.proofs.monotone.monotone_fault.Tie as tie
 
 first-fault-requires : tie.Need-first-fault-requires
 first-fault-requires c κs =
-    let h = c .before .before .before .pre in
-    (h, start (held-pairs h) refl (search needs) (search needs))
+    let h = c .before .before .pre in
+    (h, start (held-pairs h) refl (search needs))
 
 returns : tie.Need-returns
 returns c = search needs

@@ -3,8 +3,7 @@ use native.Mathlib.Nat.{zero-add}
 use mathlib.Core.Path.{refl, sym, _∙_}
 use lib.Seq.{length-take-le}
 use borrow.Author.Needs.{needs}
-use Rattle.printout.proofs.Texts.{wrote-within, wrote-all}
-use Rattle.printout.proofs.Jobs.{printed}
+use Rattle.printout.proofs.Jobs.{printed, wrote-within, wrote-all}
 use Rattle.printout.proofs.job.print.Statement.{statement}
 use Rattle.printout.proofs.job.print.Tie as tie
 

@@ -1,7 +1,7 @@
 -- `check_reward` meets its contract: what was found stands, and else its call is the step of its list. Assumes nothing.
 use mathlib.Core.Path.{refl}
 use Rattle.diagram.specs.Checks.{rewardChecks}
-use Rattle.steps.proofs.Stepping.{one-measured, measures-refused}
+use Rattle.steps.proofs.Stepping.{one-measured, measured-refused}
 use borrow.Author.Needs.{needs}
 use Rattle.reading.proofs.shape.check_reward.Statement.{statement}
 use Rattle.reading.proofs.shape.check_reward.Tie as tie
@@ -13,15 +13,13 @@ enum-told : tie.Need-enum-told
 enum-told c = search needs
 
 scale-requires : tie.Need-scale-requires
-scale-requires c κs =
-    let right = c .before .before .before .pre (c .enum-told .given .1) in
-    ((right .0, right .1), right .2)
+scale-requires c κs = c .before .before .before .pre (c .enum-told .given .1)
 
 and-within-requires : tie.Need-and-within-requires
 and-within-requires c κs = search needs
 
 returns : tie.Need-returns
-returns c = measures-refused _ rewardChecks _ _ 0 (c .before .found .given .1)
+returns c = measured-refused _ rewardChecks _ _ (c .before .found .given .1)
 
 returns-2 : tie.Need-returns-2
 returns-2 c =

@@ -1,5 +1,6 @@
 -- `read_shape` meets its contract: the parts of the checks one after the other. Assumes nothing.
 use mathlib.Core.Path.{_∙_}
+use Rattle.steps.proofs.Stepping.{measured-value}
 use Rattle.reading.proofs.Outcomes.{summary-is}
 use Rattle.reading.proofs.Shaping.{heading-passed, roots-passed, shape-found, choices-found, answer-is}
 use borrow.Author.Needs.{needs}
@@ -48,7 +49,7 @@ returns c =
     let e27 = last .check-reward .ensures in
     rw (c .answer .ensures)
     (answer-is s _ (shape-found s e11 e14 e16 e17 e27) (λ p.
-    summary-is s (c .before .before .variable-count .ensures .0) (c .before .record-count .ensures .0) (choices-found s e11 e14 e16 e17 e27 p) (e27 .value p)))
+    summary-is s (c .before .before .variable-count .ensures .0) (c .before .record-count .ensures .0) (choices-found s e11 e14 e16 e17 e27 p) (measured-value _ _ e27 p)))
 
 pub read-shape-spec : {M : Type 1} → statement M
 read-shape-spec =

@@ -1,20 +1,25 @@
 -- `low_weight` meets its contract, test by test. Assumes nothing.
+use Prim.Native.Nat.{ℕ}
+use mathlib.Core.Path.{_≡_}
 use borrow.Author.Tests.{eq-eqb, ne-eqb}
 use Rattle.scoring.specs.Passes.{lowInForce}
 use Rattle.scoring.proofs.force.low_weight.Statement.{statement}
 use Rattle.scoring.proofs.force.low_weight.Tie as tie
 
-returns : tie.Need-returns
+-- the lo arc of a line that is taken, and of any other
+taken-closed : {m : ℕ} (w : ℕ) → m ≡ 1 → 0 ≡ lowInForce m w
 unfolding lowInForce
-returns c = simp (eq-eqb _ _ (c .if1 .taken))
+taken-closed w e = simp (eq-eqb _ _ e)
+
+other-open : {m : ℕ} (w : ℕ) → (m ≡ 1 → ⊥) → w ≡ lowInForce m w
+unfolding lowInForce
+other-open w f = simp (ne-eqb _ _ f)
+
+returns : tie.Need-returns
+returns c = taken-closed _ (c .if1 .taken)
 
 returns-2 : tie.Need-returns-2
-unfolding lowInForce
-returns-2 c = simp (ne-eqb _ _ (c .before .if1 .left), eq-eqb _ _ (c .if2 .taken))
-
-returns-3 : tie.Need-returns-3
-unfolding lowInForce
-returns-3 c = simp (ne-eqb _ _ (c .before .if1 .left), ne-eqb _ _ (c .if2 .left))
+returns-2 c = other-open _ (c .if1 .left)
 
 pub low-weight-spec : {M : Type 1} → statement M
-low-weight-spec = tie.close (tie.spec returns returns-2 returns-3)
+low-weight-spec = tie.close (tie.spec returns returns-2)

@@ -1,20 +1,17 @@
 -- `node_value` meets its contract: what is computed is the definition's sum, and both products are at most that. Assumes nothing.
 use Prim.Native.Nat.{_+_, _*_}
 use native.Mathlib.Omega.{arith}
-use mathlib.Core.Path.{_≡_}
+use mathlib.Core.Path.{_≡_, _∙_}
 use lib.ListN.{getD}
 use borrow.Author.Needs.{needs}
-use Rattle.scoring.specs.Passes.{Arcs, nodeValue}
+use Rattle.scoring.specs.Passes.{arcsOf, nodeValue}
+use Rattle.scoring.proofs.Passing.{value-is}
 use Rattle.scoring.proofs.pass.node_value.Statement.{statement}
 use Rattle.scoring.proofs.pass.node_value.Tie as tie
 
-abbrev arcs : tie.Start → Arcs
-arcs c = record { high = c .args .high .now; low = c .args .low .now; highWeights = c .args .high-weights .now; lowWeights = c .args .low-weights .now }
-
 -- the sum of the two products, by the numbers that the code reads at
-sum-of : (c : tie.After-number3) → getD (c .before .before .before .before .before .args .high-weights .now) (c .before .before .before .before .number .result) 0 * getD (c .before .before .before .before .before .args .values .now) (c .before .before .number2 .result) 0 + getD (c .before .before .before .before .before .args .low-weights .now) (c .before .before .before .before .number .result) 0 * getD (c .before .before .before .before .before .args .values .now) (c .number3 .result) 0 ≡ nodeValue (arcs (c .before .before .before .before .before)) (c .before .before .before .before .before .args .node .0) (c .before .before .before .before .before .args .values .now)
-unfolding nodeValue
-sum-of c = cc
+sum-of : (c : tie.After-number3) → let a = c .before .before .before .before .before .args in getD (a .weights .now) (c .before .before .before .before .number .result) 0 * getD (a .values .now) (c .before .before .number2 .result) 0 + getD (a .weights .now) (c .before .before .before .before .number .result + 256) 0 * getD (a .values .now) (c .number3 .result) 0 ≡ nodeValue (arcsOf (a .high .now) (a .low .now) (a .weights .now)) (a .node .0) (a .values .now)
+sum-of c = value-is _ _ _ _ (c .before .before .before .before .number .ensures) (c .before .before .number2 .ensures ∙ c .before .before .before .child-of .ensures) (c .number3 .ensures ∙ c .before .child-of2 .ensures)
 
 number-requires : tie.Need-number-requires
 number-requires c κs = search needs
@@ -46,6 +43,9 @@ element-copy-out-result-2 c = search needs
 mul-result-3 : tie.Need-mul-result-3
 mul-result-3 c = omega (arith, sum-of (c .before .before), c .before .before .before .before .before .before .before .pre)
 
+add-result : tie.Need-add-result
+add-result c = search needs
+
 mul-result-4 : tie.Need-mul-result-4
 mul-result-4 c = search needs
 
@@ -61,8 +61,8 @@ element-copy-out-result-4 c = search needs
 mul-result-6 : tie.Need-mul-result-6
 mul-result-6 c = omega (arith, sum-of (c .before .before .before .before), c .before .before .before .before .before .before .before .before .before .pre)
 
-add-result : tie.Need-add-result
-add-result c = omega (arith, sum-of (c .before .before .before .before), c .before .before .before .before .before .before .before .before .before .pre)
+add-result-2 : tie.Need-add-result-2
+add-result-2 c = omega (arith, sum-of (c .before .before .before .before), c .before .before .before .before .before .before .before .before .before .pre)
 
 returns : tie.Need-returns
 returns c = sum-of (c .before .before .before .before)
@@ -81,10 +81,11 @@ node-value-spec =
     mul-result-2
     element-copy-out-result-2
     mul-result-3
+    add-result
     mul-result-4
     element-copy-out-result-3
     mul-result-5
     element-copy-out-result-4
     mul-result-6
-    add-result
+    add-result-2
     returns)

@@ -5,20 +5,21 @@ use native.Mathlib.Omega.{arith}
 use mathlib.Core.Path.{_≡_, _∙_}
 use lib.ListN.{length, length-set}
 use borrow.Author.Needs.{needs}
-use Rattle.scoring.specs.Passes.{over, Arcs, passUp, nodeValue}
+use Rattle.arrays.specs.Arrays.{over}
+use Rattle.scoring.specs.Passes.{Arcs, arcsOf, passUp, nodeValue}
 use Rattle.scoring.proofs.Passing.{pass-start, pass-next, pass-end, node-value-over}
 use Rattle.scoring.proofs.pass.pass_up.Statement.{statement}
 use Rattle.scoring.proofs.pass.pass_up.Tie as tie
 
 abbrev Inv-loop : tie.InvT-loop
-Inv-loop n high low high-weights low-weights values₀ k₀ values k =
-    (k ≤ n) × (length values ≡ 256) × (values ≡ over (passUp (record { high = high; low = low; highWeights = high-weights; lowWeights = low-weights }) k) values₀)
+Inv-loop n high low weights values₀ k₀ values k =
+    (k ≤ n) × (length values ≡ 256) × (values ≡ over (passUp (arcsOf high low weights) k) values₀)
 
 abbrev μ-loop : tie.MeasureT-loop
-μ-loop n high low high-weights low-weights values₀ k₀ values k = n - k
+μ-loop n high low weights values₀ k₀ values k = n - k
 
 abbrev arcs : tie.Start Inv-loop μ-loop → Arcs
-arcs c = record { high = c .args .high .now; low = c .args .low .now; highWeights = c .args .high-weights .now; lowWeights = c .args .low-weights .now }
+arcs c = arcsOf (c .args .high .now) (c .args .low .now) (c .args .weights .now)
 
 -- the value that a turn asks for is the pass's next
 next-value : (c : tie.After-of-record Inv-loop μ-loop) → nodeValue (arcs (c .before .before .before .before)) (c .of-record .result .0) (c .before .before .before .loop .values) ≡ nodeValue (arcs (c .before .before .before .before)) (c .before .before .before .loop .k + 2) (passUp (arcs (c .before .before .before .before)) (c .before .before .before .loop .k))

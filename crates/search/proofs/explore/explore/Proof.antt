@@ -1,10 +1,10 @@
 -- `explore` meets its contract: the layers of the plan's open lines are what a visit asks for, and what the visit leaves is document 01's search.
 -- Assumes nothing.
 use native.Mathlib.Omega.{arith}
-use mathlib.Core.Path.{_≡_, refl, _∙_}
+use mathlib.Core.Path.{refl, _∙_}
 use Rattle.decoding.specs.Decoding.{tableIn}
-use Rattle.search.specs.State.{priced}
-use Rattle.search.proofs.Starting.{handed-in, firstScene, nothing-held, Ready, first-few, first-visitable, first-room, first-explored}
+use Rattle.search.specs.Searched.{priced}
+use Rattle.search.proofs.Starting.{handed-in, firstScene, nothing-held, Ready, first-count, first-few, first-visitable, first-room, first-explored}
 use borrow.Author.Needs.{needs}
 use Rattle.search.proofs.explore.explore.Statement.{statement}
 use Rattle.search.proofs.explore.explore.Tie as tie
@@ -24,14 +24,14 @@ ready c =
     record {
       handed = handed-in _ _ (omega (arith, start .pre .1 .0 .0)) (plan .0) (plan .1);
       listed = c .open-lines .ensures .0;
-      twenty = c .open-lines .ensures .1;
+      counted = c .open-lines .ensures .1;
     }
 
 line-ranks-requires : tie.Need-line-ranks-requires
 line-ranks-requires c κs =
     let start = c .before .before .before .before .before .before .before .before .before .before .before .before in
     let r = ready (c .before .before .before .before .before .before .before .before .before) in
-    (r .listed .0, refl, first-few (start .pre .0) (start .pre .1 .0 .0) r)
+    (first-count (start .pre .0) (start .pre .1 .0 .0) r, refl, first-few (start .pre .0) (start .pre .1 .0 .0) r)
 
 array-write-cells : tie.Need-array-write-cells
 array-write-cells c = search needs
@@ -65,7 +65,7 @@ visit-requires c κs =
     let sizes = start .pre .1 .1 .1 .0 in
     let held = nothing-held (priced _ (tableIn (start .args .t1))) (limits .budget) (limits .least) (start .args .best .now) (start .args .tally .now) (sizes .1) refl refl refl refl in
     let passing = start .pre .1 .1 .0 .1 in
-    let visitable = first-visitable sound (start .pre .1 .0 .0) r (start .pre .1 .1 .1 .1 .arranged) (c .before .before .before .before .before .before .before .before .before .before .before .before .before .before .before .line-ranks .ensures) refl refl (c .before .before .before .before .before .before .before .before .before .before .room-of .ensures ∙ rw (c .before .before .before .before .before .before .before .before .before .before .before .cost-of .ensures) refl) (passing .1) (held .0) in
+    let visitable = first-visitable sound (start .pre .1 .0 .0) r (limits .kits) (start .pre .1 .1 .1 .1 .arranged) (c .before .before .before .before .before .before .before .before .before .before .before .before .before .before .before .line-ranks .ensures) refl refl (c .before .before .before .before .before .before .before .before .before .before .room-of .ensures ∙ rw (c .before .before .before .before .before .before .before .before .before .before .before .cost-of .ensures) refl) (passing .1) (held .0) in
     ((refl, r .handed .2, sizes .0, held .1), ((firstScene _ _ _ _ (passing .0) _ _, visitable), first-room sound (start .pre .1 .0 .0) r (held .2)))
 
 returns : tie.Need-returns
@@ -76,7 +76,7 @@ returns c percent passing =
     let r = ready (c .before .before .before .before .before .before .before .before .before .before .before .before .before .before .before .before .before .before .before .before .before .before .before .before .before .before) in
     let sizes = start .pre .1 .1 .1 .0 in
     let held = nothing-held (priced _ (tableIn (start .args .t1))) (limits .budget) (limits .least) (start .args .best .now) (start .args .tally .now) (sizes .1) refl refl refl refl in
-    let visitable = first-visitable sound (start .pre .1 .0 .0) r (start .pre .1 .1 .1 .1 .arranged) (c .before .before .before .before .before .before .before .before .before .before .before .before .before .before .before .before .line-ranks .ensures) refl refl (c .before .before .before .before .before .before .before .before .before .before .before .room-of .ensures ∙ rw (c .before .before .before .before .before .before .before .before .before .before .before .before .cost-of .ensures) refl) passing (held .0) in
+    let visitable = first-visitable sound (start .pre .1 .0 .0) r (limits .kits) (start .pre .1 .1 .1 .1 .arranged) (c .before .before .before .before .before .before .before .before .before .before .before .before .before .before .before .before .line-ranks .ensures) refl refl (c .before .before .before .before .before .before .before .before .before .before .before .room-of .ensures ∙ rw (c .before .before .before .before .before .before .before .before .before .before .before .before .cost-of .ensures) refl) passing (held .0) in
     first-explored (sound .valid) _ (held .2) (c .visit .ensures _ visitable)
 
 pub explore-spec : {M : Type 1} → statement M

@@ -14,14 +14,14 @@ mul-held c = search needs
 element-copy-out-held : tie.Need-element-copy-out-held
 element-copy-out-held c = search needs
 
-add-weights : tie.Need-add-weights
-add-weights c = omega (arith, sum-fits (c .before .before .args .weights .now) _ _ (c .before .before .args .x) (c .before .number .ensures) (c .before .before .pre .1))
+add-paths : tie.Need-add-paths
+add-paths c = omega (arith, sum-fits (c .before .before .args .paths .now) _ _ (c .before .before .args .x) (c .before .number .ensures) (c .before .before .pre .1))
 
-mul-weights : tie.Need-mul-weights
-mul-weights c = search needs
+mul-paths : tie.Need-mul-paths
+mul-paths c = search needs
 
-element-write-weights : tie.Need-element-write-weights
-element-write-weights c = search needs
+element-write-paths : tie.Need-element-write-paths
+element-write-paths c = search needs
 
 returns : tie.Need-returns
 returns c = added-is _ _ _ _ (c .before .number .ensures)
@@ -33,7 +33,7 @@ add-spec =
     number-requires
     mul-held
     element-copy-out-held
-    add-weights
-    mul-weights
-    element-write-weights
+    add-paths
+    mul-paths
+    element-write-paths
     returns)

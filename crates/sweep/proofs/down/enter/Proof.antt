@@ -11,11 +11,11 @@ use Rattle.sweep.proofs.down.enter.Statement.{statement}
 use Rattle.sweep.proofs.down.enter.Tie as tie
 
 abbrev Inv-loop : tie.InvT-loop
-Inv-loop weights₀ roots i₀ weights i =
-    (i ≤ roots .count) × (roots .count ≤ 16) × (length weights ≡ 256) × (weights ≡ rootWeightsOf roots i weights₀)
+Inv-loop paths₀ roots i₀ paths i =
+    (i ≤ roots .count) × (roots .count ≤ 16) × (length paths ≡ 256) × (paths ≡ rootWeightsOf roots i paths₀)
 
 abbrev μ-loop : tie.MeasureT-loop
-μ-loop weights₀ roots i₀ weights i = roots .count - i
+μ-loop paths₀ roots i₀ paths i = roots .count - i
 
 loop-holds : tie.Need-loop-holds Inv-loop μ-loop
 unfolding rootWeightsOf
@@ -43,7 +43,7 @@ add-requires : tie.Need-add-requires Inv-loop μ-loop
 add-requires c κs =
     let inv = c .before .before .before .before .before .loop .inv in
     let roots = c .before .before .before .before .before .before .args .t1 in
-    let weights = c .before .before .before .before .before .before .args .weights .now in
+    let weights = c .before .before .before .before .before .before .args .paths .now in
     let i = c .before .before .before .before .before .loop .i in
     let enters = c .before .before .before .before .before .before .pre .0 .1 i (omega arith) in
     let long : getD (roots .nodes) (i + 2) 0 < length (rootWeightsOf roots i weights) = rw (← inv .3, inv .2) (enters .0) in
@@ -59,7 +59,7 @@ loop-again : tie.Need-loop-again Inv-loop μ-loop
 loop-again c =
     let inv = c .before .before .before .before .before .before .loop .inv in
     let entered = rw (c .before .before .before .new .ensures) at (c .add .ensures) in
-    (omega arith, inv .1, rw (entered, added-length) (inv .2), entered ∙ rw (inv .3) (sym (root-weights-of-next (c .before .before .before .before .before .before .before .args .t1) (c .before .before .before .before .before .before .before .args .weights .now) (c .before .before .before .before .before .before .loop .i))))
+    (omega arith, inv .1, rw (entered, added-length) (inv .2), entered ∙ rw (inv .3) (sym (root-weights-of-next (c .before .before .before .before .before .before .before .args .t1) (c .before .before .before .before .before .before .before .args .paths .now) (c .before .before .before .before .before .before .loop .i))))
 
 returns : tie.Need-returns Inv-loop μ-loop
 returns c =

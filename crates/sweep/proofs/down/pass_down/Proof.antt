@@ -6,29 +6,29 @@ use native.Mathlib.Omega.{arith}
 use mathlib.Core.Path.{_≡_, refl, _∙_}
 use mathlib.Core.List.{List}
 use lib.ListN.{length}
-use Rattle.scoring.specs.Passes.{Arcs}
+use Rattle.scoring.specs.Passes.{Arcs, arcsOf}
 use Rattle.sweep.specs.Down.{passDown, Budget}
 use Rattle.sweep.proofs.Transposing.{hand-on-length, turn-fits, turn-budget, turn-passes, pass-end}
 use Rattle.sweep.proofs.down.pass_down.Statement.{statement}
 use Rattle.sweep.proofs.down.pass_down.Tie as tie
 
 -- the invariant, over plain lists
-abbrev Pass : Arcs → (n : ℕ) → (weights₀ weights : List ℕ) → (k : ℕ) → Type 0
-Pass a n weights₀ weights k =
+abbrev Pass : Arcs → (n : ℕ) → (paths₀ paths : List ℕ) → (k : ℕ) → Type 0
+Pass a n paths₀ paths k =
     (k ≤ n) ×
-    (length weights ≡ 256) ×
-    (passDown a k weights ≡ passDown a n weights₀) ×
-    ((scales : ℕ → ℕ) → Budget a n scales weights₀ → Budget a k scales weights)
+    (length paths ≡ 256) ×
+    (passDown a k paths ≡ passDown a n paths₀) ×
+    ((scales : ℕ → ℕ) → Budget a n scales paths₀ → Budget a k scales paths)
 
 abbrev Inv-loop : tie.InvT-loop
-Inv-loop n high low high-weights low-weights weights₀ k₀ weights k =
-    Pass (record { high = high; low = low; highWeights = high-weights; lowWeights = low-weights }) n weights₀ weights k
+Inv-loop n high low weights paths₀ k₀ paths k =
+    Pass (arcsOf high low weights) n paths₀ paths k
 
 abbrev μ-loop : tie.MeasureT-loop
-μ-loop n high low high-weights low-weights weights₀ k₀ weights k = k
+μ-loop n high low weights paths₀ k₀ paths k = k
 
 abbrev arcs : tie.Start Inv-loop μ-loop → Arcs
-arcs c = record { high = c .args .high .now; low = c .args .low .now; highWeights = c .args .high-weights .now; lowWeights = c .args .low-weights .now }
+arcs c = arcsOf (c .args .high .now) (c .args .low .now) (c .args .weights .now)
 
 loop-holds : tie.Need-loop-holds Inv-loop μ-loop
 loop-holds c = (le-refl _, c .pre .1, refl, λ _ b. b)
@@ -65,13 +65,13 @@ loop-again c =
     let one : at .loop .k ≡ suc (at .loop .k - 1) = omega arith in (
       omega arith,
       rw (c .hand-on .ensures, hand-on-length) size,
-      rw (c .hand-on .ensures) (turn-passes (arcs start) (at .loop .k) (at .loop .weights) (at .loop .k - 1) (c .before .of-record .result .0) one (c .before .of-record .ensures) ∙ inv .2),
+      rw (c .hand-on .ensures) (turn-passes (arcs start) (at .loop .k) (at .loop .paths) (at .loop .k - 1) (c .before .of-record .result .0) one (c .before .of-record .ensures) ∙ inv .2),
       λ scales b. rw (c .hand-on .ensures) (turn-budget (inv .3 scales b) (omega arith) (at .loop .k - 1) (c .before .of-record .result .0) one (c .before .of-record .ensures)),
     )
 
 returns : tie.Need-returns Inv-loop μ-loop
 returns c =
-    pass-end (arcs (c .before .before)) (c .before .loop .k) (c .before .loop .weights) _ (omega arith) (c .before .loop .inv .2)
+    pass-end (arcs (c .before .before)) (c .before .loop .k) (c .before .loop .paths) _ (omega arith) (c .before .loop .inv .2)
 
 pub pass-down-spec : {M : Type 1} → statement M
 pass-down-spec =

@@ -10,27 +10,27 @@ use lib.ListN.{getD, replicate}
 use borrow.Author.Needs.{needs}
 use Rattle.diagram.specs.Table.{sequence}
 use Rattle.diagram.proofs.Places.{sequence-length, sequence-snoc}
-use Rattle.scoring.specs.Passes.{over}
-use Rattle.scoring.proofs.Over.{over-next}
+use Rattle.arrays.specs.Arrays.{over}
+use Rattle.arrays.proofs.Over.{over-next}
 use Rattle.sweep.proofs.drops.by_choice.Statement.{statement}
 use Rattle.sweep.proofs.drops.by_choice.Tie as tie
 
 -- the cell of choice i
-abbrev cell : (places cells : List ℕ) → ℕ → ℕ
-cell places cells i = getD cells (getD places i 0) 0
+abbrev cell : (positions cells : List ℕ) → ℕ → ℕ
+cell positions cells i = getD cells (getD positions i 0) 0
 
 abbrev Inv-loop : tie.InvT-loop
-Inv-loop n places cells numbers₀ i₀ numbers i = (i ≤ n) × (n ≤ 20) × (numbers ≡ over (sequence (cell places cells) 0 i) (replicate 20 0))
+Inv-loop n positions cells numbers₀ i₀ numbers i = (i ≤ n) × (n ≤ 20) × (numbers ≡ over (sequence (cell positions cells) 0 i) (replicate 20 0))
 
 abbrev μ-loop : tie.MeasureT-loop
-μ-loop n places cells numbers₀ i₀ numbers i = n - i
+μ-loop n positions cells numbers₀ i₀ numbers i = n - i
 
 loop-holds : tie.Need-loop-holds Inv-loop μ-loop
 unfolding over sequence
 loop-holds c = (omega arith, c .pre .0, refl)
 
 -- the choice's position
-within : (c : tie.In-loop Inv-loop μ-loop) → getD (c .before .before .args .places .now) (c .before .loop .i) 0 < 64
+within : (c : tie.In-loop Inv-loop μ-loop) → getD (c .before .before .args .positions .now) (c .before .loop .i) 0 < 64
 within c = c .before .before .pre .1 _ (c .loop-test .taken)
 
 element-copy-out-x : tie.Need-element-copy-out-x Inv-loop μ-loop
@@ -62,7 +62,7 @@ loop-again c =
     let inv = c .before .before .before .loop .inv in
     let i = c .before .before .before .loop .i in
     let start = c .before .before .before .before in
-    let f : ℕ → ℕ = cell (start .args .places .now) (start .args .cells .now) in
+    let f : ℕ → ℕ = cell (start .args .positions .now) (start .args .cells .now) in
     let snoc : sequence f 0 i ++ (f i ∷ []) ≡ sequence f 0 (i + 1) = rw (add-one i) (rw zero-add at (sequence-snoc f 0 i)) in
     (omega arith, inv .1, rw (inv .2, ← snoc) (over-next (sequence f 0 i) (replicate 20 0) i (f i) (sequence-length f 0 i) (omega (arith, inv .1))))
 

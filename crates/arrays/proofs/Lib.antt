@@ -1,0 +1,3 @@
+-- Laws of lists written to arrays.
+pub mod Over
+pub mod Copied

@@ -1,0 +1,2 @@
+-- Lists in arrays.
+pub mod Arrays

@@ -1,0 +1,3 @@
+-- The laws of the filter.
+pub mod ForcedLines
+pub mod Serving

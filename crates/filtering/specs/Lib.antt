@@ -1,0 +1,3 @@
+-- What the filter works on, and what its enum stands for.
+pub mod Forced
+pub mod Answer

@@ -1,0 +1,3 @@
+-- Lists of numbers in arrays, and the numbers of arcs.
+pub mod Numbers
+pub mod Chains

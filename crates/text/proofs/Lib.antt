@@ -1,0 +1,2 @@
+-- Laws of the printout's lines.
+pub mod Texts

@@ -1,0 +1,65 @@
+-- What is computed once for a table. Arrays by position have one entry for each position up to 63; the weights of arcs stand by the arcs' numbers.
+use Prim.Native.Nat.{ℕ, zero, suc, _+_, _*_, _/_, _≤_, _<_, _^_}
+use mathlib.Core.Path.{_≡_}
+use mathlib.Core.List.{List}
+use lib.ListN.{length, getD, set, drop}
+use Rattle.diagram.specs.Table.{Variable, Table, chance, sequence, scaleOf}
+use Rattle.decoding.specs.Decoding.{rootAt}
+use Rattle.ordering.specs.Numbers.{highArcNumber, lowArcNumber}
+use Rattle.weighing.specs.declared.roots.Roots.{Roots}
+use Rattle.weighing.specs.Value.{nodePosition, gap, highShare, lowShare, highArc, lowArc}
+
+-- ---------------------------------------------------------------------------
+-- The weights of arcs
+
+-- The product of b from each position on
+unfoldable pub products : List Variable → List ℕ
+products vs = sequence (λ x. scaleOf (drop x vs)) 0 64
+
+-- A share of each position's variable; the default counts past the last variable
+unfoldable pub sharesBy : (Variable → ℕ) → List Variable → List ℕ
+sharesBy share vs = sequence (λ x. share (getD vs x (chance 0 1))) 0 64
+
+-- The shares of the hi arcs at each position
+abbrev pub highShares : List Variable → List ℕ
+highShares vs = sharesBy (λ v. highShare v 1) vs
+
+-- The shares of the lo arcs at each position
+abbrev pub lowShares : List Variable → List ℕ
+lowShares vs = sharesBy (λ v. lowShare v 2) vs
+
+-- The weight of node n's arc to the child that `children` has: its share, times the quotient of the products after the node and at the child
+unfoldable pub arcWeight : (products shares positions children : List ℕ) → (n : ℕ) → ℕ
+arcWeight qs ss ps cs n =
+    getD ss (getD ps n 0) 0 * (getD qs (getD ps n 0 + 1) 0 / getD qs (getD ps (getD cs n 0) 0) 0)
+
+-- The arrays have what that weight is computed from, and it stays within 2^56
+pub record Weighable (qs ss ps cs : List ℕ) (n : ℕ) : Type 0 where
+  pub from : getD ps n 0 < 63
+  pub to : getD ps (getD cs n 0) 0 < 64
+  pub positive : 0 < getD qs (getD ps (getD cs n 0) 0) 0
+  pub fits : arcWeight qs ss ps cs n ≤ 2 ^ 56
+
+-- An array by arc number in which the arcs of the first n records have these weights, and all else is as it was
+unfoldable pub arcsOver : (high low : ℕ → ℕ) → (records : ℕ) → (old : List ℕ) → List ℕ
+arcsOver high low zero old = old
+arcsOver high low (suc k) old = set (set (arcsOver high low k old) (highArcNumber k) (high k)) (lowArcNumber k) (low k)
+
+-- The weights of the arcs of a table's first n records
+abbrev pub tableArcs : Table → (records : ℕ) → (old : List ℕ) → List ℕ
+tableArcs t n old = arcsOver (highArc t) (lowArc t) n old
+
+-- ---------------------------------------------------------------------------
+-- Roots
+
+-- The first n roots of a table in arrays: at i + 2 the node of root i, and what comes to it, its reward times b of each variable before the node
+pub record RootsHeldTo (t : Table) (n : ℕ) (nodes weights : List ℕ) : Type 0 where
+  pub within : (i : ℕ) → i < n → (2 ≤ getD nodes (i + 2) 0) × (getD nodes (i + 2) 0 < length (t .records) + 2)
+  pub node : (i : ℕ) → i < n → getD nodes (i + 2) 0 ≡ rootAt (t .roots) i .node
+  pub weight : (i : ℕ) → i < n → getD weights (i + 2) 0 ≡ rootAt (t .roots) i .reward * gap t 0 (nodePosition t (rootAt (t .roots) i .node))
+
+-- All roots of a table
+pub record RootsHeld (t : Table) (rs : Roots) : Type 0 where
+  pub all : rs .count ≡ length (t .roots)
+  pub few : rs .count ≤ 16
+  pub held : RootsHeldTo t (rs .count) (rs .nodes) (rs .weights)
