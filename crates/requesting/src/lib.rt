@@ -33,7 +33,7 @@ pub fn accept(file: &[u8], plan: &[u8], budget: u32, percent: u32, size: usize) 
 }
 
 // 21 to 25, of what comes with a file that has a number of choices.
-pub fn check_request(plan: &[u8], budget: u32, percent: u32, size: usize, choices: usize) -> Verdict
+fn check_request(plan: &[u8], budget: u32, percent: u32, size: usize, choices: usize) -> Verdict
     ensures { λ r. ⌜ r ≡ requestFinding (now (plan .entry)) budget percent size choices ⌝ }
 {
     let found = check_plan(plan, choices);

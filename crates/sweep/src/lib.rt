@@ -5,7 +5,6 @@ mod drops;
 mod two_pass;
 
 pub use answer::SweepAnswer;
-pub use drops::by_choice;
 use reading::ReadAnswer;
 use requesting::accept;
 pub use two_pass::Sweep;
