@@ -14,8 +14,8 @@ use Rattle.diagram.specs.Validity.{Monotone}
 use Rattle.decoding.specs.Decoding.{rootAt}
 use Rattle.arrays.proofs.Over.{over-sequence-at}
 use Rattle.weighing.specs.declared.roots.Roots.{Roots}
-use Rattle.weighing.specs.Value.{nodePosition, gap, variableAt, markAt}
-use Rattle.weighing.specs.Weights.{RootsHeld}
+use Rattle.weighing.specs.Value.{nodePosition, gap, marksFrom, variableAt, markAt}
+use Rattle.weighing.proofs.HeldRoots.{RootsHeld}
 use Rattle.scoring.specs.Passes.{markOf, highInForceAt, lowInForceAt, recordLoss, lossesOf, Marked}
 use Rattle.scoring.specs.Valued.{nodeValues}
 use Rattle.scoring.proofs.Passing.{mark-at-node, high-is, low-is}
@@ -87,11 +87,11 @@ module _ {t : Table} {s : List ℕ} {n : ℕ} {ps hs ls ws ms : List ℕ} (marke
 
   -- the weights of record k's arcs during the search
   high-at : (k : ℕ) → k < n → highInForceAt ps ms ws k ≡ highAt t s k
-  unfolding highAt markOf variableAt markAt
+  unfolding highAt markOf variableAt markAt marksFrom
   high-at k h = rw (mark-at-node marked k h, marked .highArcs k h) refl
 
   low-at : (k : ℕ) → k < n → lowInForceAt ps ms ws k ≡ lowAt t s k
-  unfolding lowAt markOf variableAt markAt
+  unfolding lowAt markOf variableAt markAt marksFrom
   low-at k h = rw (mark-at-node marked k h, marked .lowArcs k h) refl
 
   -- the weights of the arcs by their numbers: the records', the roots', and that of the number that no arc has
@@ -104,7 +104,7 @@ module _ {t : Table} {s : List ℕ} {n : ℕ} {ps hs ls ws ms : List ℕ} (marke
   low-weighs : (k : ℕ) → k < n → getD weights (k + 258) 0 ≡ lowAt t s k
   low-weighs k h = weight-low (highInForceAt ps ms ws) (lowInForceAt ps ms ws) _ (marked .size .1) (entering .few) k h ∙ low-at k h
 
-  root-weighs : (i : ℕ) → i < rs .count → getD weights (i + 514) 0 ≡ getD (rs .weights) (i + 2) 0
+  root-weighs : (i : ℕ) → i < rs .count → getD weights (i + 514) 0 ≡ getD (rs .weights) i 0
   root-weighs = weight-root (highInForceAt ps ms ws) (lowInForceAt ps ms ws) _ (marked .size .1) (entering .few)
 
   none-weighs : getD weights 0 0 ≡ 0
@@ -122,7 +122,7 @@ module _ {t : Table} {s : List ℕ} {n : ℕ} {ps hs ls ws ms : List ℕ} (marke
       module _ (cells : List ℕ) (one : getD cells 1 0 ≡ 1) where
         -- what a root's arc brings, from the cell that has 1
         root-brings : (k : ℕ) → k < rs .count → getD cells (getD (arcCells order n) (k + 514) 0) 0 * getD weights (k + 514) 0 ≡ rootAt (t .roots) k .reward * gap t 0 (nodePosition t (rootAt (t .roots) k .node))
-        root-brings k h = rw (root-weighs k h, numbered .roots k (omega (arith, entering .few)), one, entering .held .weight k h) (omega arith)
+        root-brings k h = rw (root-weighs k h, numbered .roots k (omega (arith, entering .few)), one, entering .weight k h) (omega arith)
 
         -- what comes to a node, by the numbers of the records' arcs
         inflow-numbers : (i : ℕ) → i < n → inflow (layersIn r) cells i ≡ rootWeight t (getD order i 0) (length (t .roots)) + into (λ k. recordAt (t .records) k .hi) (λ k. recordAt (t .records) k .lo) (λ k. getD cells (getD (arcCells order n) (k + 2) 0) 0 * highAt t s k) (λ k. getD cells (getD (arcCells order n) (k + 258) 0) 0 * lowAt t s k) (getD order i 0) n

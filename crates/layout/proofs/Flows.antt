@@ -244,8 +244,8 @@ choices-mono (choice ∷ vs) (suc x) (suc y) h = omega (arith, choices-mono vs x
 choices-mono (chance a b ∷ vs) (suc x) (suc y) h = choices-mono vs x y (omega arith)
 
 -- the mark in force at record k, by its choice's number
-mark-of : (t : Table) (s : List ℕ) (k : ℕ) → markOf t s (recordAt (t .records) k .position) ≡ cond (isChoice (variableAt t k)) (markAt t s k) 3
-unfolding markOf variableAt markAt
+mark-of : (t : Table) (s : List ℕ) (k : ℕ) → markOf (t .variables) s (recordAt (t .records) k .position) ≡ cond (isChoice (variableAt t k)) (markAt t s k) 3
+unfolding markOf variableAt markAt marksFrom
 mark-of t s k = refl
 
 -- the shares of a variable whose line is settled from the start
@@ -259,7 +259,7 @@ settled-shares (chance x y) m m′ g h f b e = (refl, refl)
 
 module _ (t : Table) (s : List ℕ) (k : ℕ) where
   -- at a record of no open line of s the weights of a search are those of the plan visited
-  plain-weights : {p : List ℕ} → Settles s p → ((i : ℕ) → getD s i 0 ≤ 2) → (markOf t s (recordAt (t .records) k .position) ≡ 0 → ⊥) → (highAt t s k ≡ highWeight t (openTaken p) k) × (lowAt t s k ≡ lowWeight t (openTaken p) k)
+  plain-weights : {p : List ℕ} → Settles s p → ((i : ℕ) → getD s i 0 ≤ 2) → (markOf (t .variables) s (recordAt (t .records) k .position) ≡ 0 → ⊥) → (highAt t s k ≡ highWeight t (openTaken p) k) × (lowAt t s k ≡ lowWeight t (openTaken p) k)
   unfolding highAt lowAt highWeight lowWeight highArc lowArc
   plain-weights {p} settles legal f =
       let i = choiceCount (take (recordAt (t .records) k .position) (t .variables)) in

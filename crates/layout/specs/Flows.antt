@@ -22,10 +22,10 @@ use Rattle.layers.specs.Layers.{Layers, Sized, inflow}
 
 -- The weights of record k's arcs during a search from plan s: 0 where s closes the arc
 unfoldable pub highAt : Table → (s : List ℕ) → (k : ℕ) → ℕ
-highAt t s k = highInForce (markOf t s (recordAt (t .records) k .position)) (highArc t k)
+highAt t s k = highInForce (markOf (t .variables) s (recordAt (t .records) k .position)) (highArc t k)
 
 unfoldable pub lowAt : Table → (s : List ℕ) → (k : ℕ) → ℕ
-lowAt t s k = lowInForce (markOf t s (recordAt (t .records) k .position)) (lowArc t k)
+lowAt t s k = lowInForce (markOf (t .variables) s (recordAt (t .records) k .position)) (lowArc t k)
 
 -- ---------------------------------------------------------------------------
 -- The layout
@@ -72,7 +72,7 @@ pub record Line (t : Table) (s order : List ℕ) (from own to d : ℕ) : Type 0 
   pub bounds : (from ≤ own) × (own ≤ to) × (to ≤ length (t .records))
   pub before : (j : ℕ) → j < own → nodePosition t (getD order j 0) < position
   pub here : (j : ℕ) → own ≤ j → j < to → nodePosition t (getD order j 0) ≡ position
-  pub plain : (j : ℕ) → from ≤ j → j < own → markOf t s (nodePosition t (getD order j 0)) ≡ 0 → ⊥
+  pub plain : (j : ℕ) → from ≤ j → j < own → markOf (t .variables) s (nodePosition t (getD order j 0)) ≡ 0 → ⊥
   pub covers : (f : ℕ → ℕ) → rankSum (λ j. f (getD order j 0)) own (to - own) ≡ atSum t f position (length (t .records))
 
 -- ---------------------------------------------------------------------------

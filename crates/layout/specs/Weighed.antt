@@ -22,7 +22,7 @@ arcsOf d rs order = arcsAt (d .high) (d .low) (d .nodes) (d .records) (rs .count
 
 -- What comes to the roots is written as the weights of their arcs
 abbrev pub broughtBy : Roots → (weights : List ℕ) → List ℕ
-broughtBy rs ws = sets ws rootArcs (sequence (λ i. getD (rs .weights) (i + 2) 0) 0 (rs .count))
+broughtBy rs ws = sets ws rootArcs (sequence (λ i. getD (rs .weights) i 0) 0 (rs .count))
 
 -- The first n nodes of an order are those of records
 abbrev pub NodesWithin : (n : ℕ) → (order : List ℕ) → Type 0

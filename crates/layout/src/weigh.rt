@@ -31,7 +31,7 @@ pub fn weigh_roots(roots: Roots, weights: &mut [u64; 544])
 {
     let mut i = 0;
     while i < roots.count {
-        weights[i + ROOT_ARCS] = roots.weights[i + 2];
+        weights[i + ROOT_ARCS] = roots.weights[i];
         i += 1;
     }
 }

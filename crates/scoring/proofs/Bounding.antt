@@ -18,7 +18,7 @@ use Rattle.requesting.proofs.FullPlans.{Legal}
 
 module _ {d : Decoded} (sound : Sound d) where
   -- the arrays hold the table and the plan
-  pub marked : {ws ms : List ℕ} (p : List ℕ) → length p ≡ choiceCount (tableIn d .variables) → Legal p → ws ≡ tableArcs (tableIn d) (d .records) (replicate 544 0) → ms ≡ marksByPosition (tableIn d) p → Marked (tableIn d) p (d .records) (d .positions) (d .high) (d .low) ws ms
+  pub marked : {ws ms : List ℕ} (p : List ℕ) → length p ≡ choiceCount (tableIn d .variables) → Legal p → ws ≡ tableArcs (tableIn d) (d .records) (replicate 544 0) → ms ≡ marksByPosition (tableIn d .variables) p → Marked (tableIn d) p (d .records) (d .positions) (d .high) (d .low) ws ms
   marked p long legal ews ems =
       let variables = sound .valid .variables in
       let records = sound .valid .records in

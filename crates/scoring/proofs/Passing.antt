@@ -137,13 +137,13 @@ module _ {t : Table} {p : List ℕ} {n : ℕ} {ps hs ls ws ms : List ℕ} (m : M
   low-is k h = rw (m .low) (column-at 0 (λ (r : Record). r .lo) (t .records) k (record-less k h))
 
   -- the marks of any plan, by record
-  marks-at-node : (u us : List ℕ) → us ≡ marksByPosition t u → (k : ℕ) → k < n → markAtNode ps us k ≡ cond (isChoice (variableAt t k)) (markAt t u k) 3
-  unfolding markAtNode marksByPosition markOf variableAt markAt
+  marks-at-node : (u us : List ℕ) → us ≡ marksByPosition (t .variables) u → (k : ℕ) → k < n → markAtNode ps us k ≡ cond (isChoice (variableAt t k)) (markAt t u k) 3
+  unfolding markAtNode marksByPosition markOf variableAt markAt marksFrom
   marks-at-node u us e k h =
       let x = recordAt (t .records) k .position in
       let few = m .few in
       let less : x < 64 = omega (arith, position-less (m .formed) k) in
-      rw (m .positions, column-at (length (t .variables)) (λ (r : Record). r .position) (t .records) k (record-less k h), e, sequence-at (markOf t u) 0 64 x 0 less, zero-add x)
+      rw (m .positions, column-at (length (t .variables)) (λ (r : Record). r .position) (t .records) k (record-less k h), e, sequence-at (markOf (t .variables) u) 0 64 x 0 less, zero-add x)
 
   pub mark-at-node : (k : ℕ) → k < n → markAtNode ps ms k ≡ cond (isChoice (variableAt t k)) (markAt t p k) 3
   mark-at-node = marks-at-node p ms (m .marks)
@@ -158,7 +158,7 @@ module _ {t : Table} {p : List ℕ} {n : ℕ} {ps hs ls ws ms : List ℕ} (m : M
       simp getD-drop (open-taken-at p (choiceCount (take x (t .variables)) + 0) (omega arith) (m .legal _))
 
   -- under the marks with open lines taken the arcs in force are those of the plan with all open lines taken
-  module _ {us : List ℕ} (e : us ≡ marksByPosition t (openTaken p)) where
+  module _ {us : List ℕ} (e : us ≡ marksByPosition (t .variables) (openTaken p)) where
     high-in-force : (k : ℕ) → k < n → highInForceAt ps us ws k ≡ highWeight t (openTaken p) k
     unfolding highArc highWeight
     high-in-force k h = rw (marks-at-node (openTaken p) us e k h, m .highArcs k h) (high-forced (variableAt t k) _ _ (mark-full k))

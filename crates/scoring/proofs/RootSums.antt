@@ -18,7 +18,7 @@ use Rattle.arrays.specs.Arrays.{over}
 use Rattle.arrays.proofs.Over.{over-sequence-at}
 use Rattle.weighing.specs.declared.roots.Roots.{Roots}
 use Rattle.weighing.specs.Value.{nodePosition, value, gap, rootedSum}
-use Rattle.weighing.specs.Weights.{RootsHeld}
+use Rattle.weighing.proofs.HeldRoots.{RootsHeld}
 use Rattle.weighing.proofs.Values.{score-rooted}
 use Rattle.scoring.specs.Passes.{rootSum, Marked}
 use Rattle.scoring.proofs.Bounding.{top-fits}
@@ -26,7 +26,7 @@ use Rattle.scoring.proofs.Bounding.{top-fits}
 -- ---------------------------------------------------------------------------
 -- Sums
 
-pub root-sum-next : (rs : Roots) (vs : List ℕ) (i : ℕ) → rootSum rs vs (i + 1) ≡ rootSum rs vs i + getD (rs .weights) (i + 2) 0 * getD vs (getD (rs .nodes) (i + 2) 0) 0
+pub root-sum-next : (rs : Roots) (vs : List ℕ) (i : ℕ) → rootSum rs vs (i + 1) ≡ rootSum rs vs i + getD (rs .weights) i 0 * getD vs (getD (rs .nodes) i 0) 0
 unfolding rootSum
 root-sum-next rs vs i = rw (add-one i) refl
 
@@ -48,7 +48,7 @@ module _ {t : Table} {rs : Roots} (e : RootsHeld t rs) (vs : List ℕ) (v : ℕ 
   root-sum-part zero h = refl
   root-sum-part (suc i) h =
       let less : i < rs .count = omega arith in
-      rw (rewarded-next _ (t .roots) i (omega (arith, e .all)), root-sum-part i (omega arith), values _ (e .held .within i less .1), e .held .weight i less, e .held .node i less) (omega arith)
+      rw (rewarded-next _ (t .roots) i (omega (arith, e .all)), root-sum-part i (omega arith), values _ (e .within i less .1), e .weight i less, e .node i less) (omega arith)
 
   -- the sum by the arrays is the sum over the table's roots
   pub root-sum : rootSum rs vs (rs .count) ≡ rootedSum t v

@@ -4,7 +4,7 @@ use Prim.Native.Nat.{ℕ, zero, suc, _+_, _-_, _*_, _≤_, _<_, _^_}
 use mathlib.Core.Path.{_≡_}
 use mathlib.Core.Bool.{cond}
 use mathlib.Core.List.{List, [], _∷_, _++_}
-use lib.ListN.{length, getD, drop, replicate}
+use lib.ListN.{length, getD, take, drop, replicate}
 use lib.Dec.{eqb}
 use Rattle.diagram.specs.Table.{Variable, Table, Record, chance, sequence, recordAt, isChoice, choiceCount, scaleOf, scale}
 use Rattle.diagram.specs.Validity.{Formed, BoundedShares}
@@ -12,7 +12,7 @@ use Rattle.decoding.specs.Nodes.{column}
 use Rattle.ordering.specs.Numbers.{highArcNumber, lowArcNumber, lowArcOf, lowOffset}
 use Rattle.arrays.specs.Arrays.{over, byNode}
 use Rattle.weighing.specs.declared.roots.Roots.{Roots}
-use Rattle.weighing.specs.Value.{value, marksFrom, highWeight, lowWeight, highArc, lowArc}
+use Rattle.weighing.specs.Value.{value, highWeight, lowWeight, highArc, lowArc}
 use Rattle.weighing.specs.Weights.{arcsOver}
 
 -- ---------------------------------------------------------------------------
@@ -23,12 +23,12 @@ abbrev pub chanceMark : ℕ
 chanceMark = 3
 
 -- The mark in force at position x: a choice's own, or a chance's, both of whose arcs are in force
-unfoldable pub markOf : Table → (plan : List ℕ) → (x : ℕ) → ℕ
-markOf t p x = cond (isChoice (getD (t .variables) x (chance 0 1))) (getD (marksFrom t x p) 0 0) chanceMark
+unfoldable pub markOf : List Variable → (plan : List ℕ) → (x : ℕ) → ℕ
+markOf vs p x = cond (isChoice (getD vs x (chance 0 1))) (getD (drop (choiceCount (take x vs)) p) 0 0) chanceMark
 
 -- The marks in force at all positions
-unfoldable pub marksByPosition : Table → (plan : List ℕ) → List ℕ
-marksByPosition t p = sequence (markOf t p) 0 64
+unfoldable pub marksByPosition : List Variable → (plan : List ℕ) → List ℕ
+marksByPosition vs p = sequence (markOf vs p) 0 64
 
 -- A mark, with an open line taken
 unfoldable pub takenMark : (mark : ℕ) → ℕ
@@ -101,7 +101,7 @@ pub record Fits (a : Arcs) (n : ℕ) : Type 0 where
 -- The sum, over the first i roots, of what comes to a root times its node's value
 unfoldable pub rootSum : Roots → (values : List ℕ) → (i : ℕ) → ℕ
 rootSum rs vs zero = 0
-rootSum rs vs (suc i) = rootSum rs vs i + getD (rs .weights) (i + 2) 0 * getD vs (getD (rs .nodes) (i + 2) 0) 0
+rootSum rs vs (suc i) = rootSum rs vs i + getD (rs .weights) i 0 * getD vs (getD (rs .nodes) i 0) 0
 
 -- ---------------------------------------------------------------------------
 -- Losses
@@ -138,6 +138,6 @@ pub record Marked (t : Table) (p : List ℕ) (n : ℕ) (ps hs ls ws ms : List �
   pub low : ls ≡ column 0 (λ (r : Record). r .lo) (t .records)
   pub highArcs : (k : ℕ) → k < n → getD ws (highArcNumber k) 0 ≡ highArc t k
   pub lowArcs : (k : ℕ) → k < n → getD ws (lowArcNumber k) 0 ≡ lowArc t k
-  pub marks : ms ≡ marksByPosition t p
+  pub marks : ms ≡ marksByPosition (t .variables) p
   pub plan : length p ≡ choiceCount (t .variables)
   pub legal : (i : ℕ) → getD p i 0 ≤ 2

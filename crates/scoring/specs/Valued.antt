@@ -9,7 +9,7 @@ use Rattle.decoding.specs.declared.table.Decoded.{Decoded}
 use Rattle.decoding.specs.Decoding.{tableIn}
 use Rattle.arrays.specs.Arrays.{over}
 use Rattle.weighing.specs.Value.{value}
-use Rattle.weighing.specs.Weights.{tableArcs, RootsHeld}
+use Rattle.weighing.specs.Weights.{tableArcs, rootsOf}
 use Rattle.scoring.specs.Passes.{marksByPosition, planArcs}
 use Rattle.scoring.specs.declared.bound.PlanValue.{PlanValue}
 
@@ -24,5 +24,5 @@ pub record Valued (d : Decoded) (p ws fs vs : List ℕ) (r : PlanValue) : Type 0
   pub inForce : fs ≡ planArcs (tableIn d) (openTaken p) (d .records) (replicate 544 0)
   pub values : vs ≡ nodeValues (tableIn d) (openTaken p) (d .records) (replicate 256 0)
   pub bound : r .bound ≡ upperBound (tableIn d) p
-  pub roots : RootsHeld (tableIn d) (r .roots)
-  pub marks : r .marks ≡ marksByPosition (tableIn d) p
+  pub roots : r .roots ≡ rootsOf (tableIn d)
+  pub marks : r .marks ≡ marksByPosition (tableIn d .variables) p

@@ -52,7 +52,7 @@ pub fn value_plan(
     ensures { λ r. ⌜ Valued table (now (plan .entry)) (now (arcs .exit)) (now (weights .exit)) (now (values .exit)) r ⌝ }
 {
     let roots = lay_out(table, arcs);
-    let marks = marks_by_position(table, plan);
+    let marks = marks_by_position(&table.words, table.variables, plan);
     let taken = take_open(&marks);
     in_force(table.records, &table.positions, &taken, arcs, weights);
     pass_up(table.records, &table.high, &table.low, weights, values);
@@ -72,8 +72,8 @@ pub fn root_sum(roots: Roots, values: &[u64; 256]) -> u64
     let mut sum = 0;
     let mut i = 0;
     while i < roots.count {
-        let node = Node::new(roots.nodes[i + 2]);
-        sum += roots.weights[i + 2] * value_of(values, node);
+        let node = Node::new(roots.nodes[i]);
+        sum += roots.weights[i] * value_of(values, node);
         i += 1;
     }
     sum

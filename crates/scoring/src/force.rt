@@ -1,5 +1,4 @@
 // The marks by position, and the arcs that are in force under them.
-use decoding::Decoded;
 use decoding::is_choice_at;
 use decoding::position_of;
 use ordering::HIGH_ARCS;
@@ -11,21 +10,21 @@ ghost use mathlib.Core.Path.{_≡_};
 ghost use Prim.Native.Nat.{ℕ, _≤_, _<_};
 ghost use lib.ListN.{length, getD};
 ghost use Rattle.diagram.specs.Table.{choiceCount};
-ghost use Rattle.decoding.specs.Decoding.{tableIn};
+ghost use Rattle.decoding.specs.Decoding.{variablesIn};
 ghost use Rattle.scoring.specs.Passes as passes;
 ghost use Rattle.scoring.specs.Passes.{takenMark, takenMarks, highInForce, lowInForce, arcsInForce};
 
-// The mark in force at each position, `CHANCE` at a chance. The plan has one byte a choice, as check 21 asks.
-pub fn marks_by_position(table: Decoded, plan: &[u8]) -> [u8; 64]
-    requires { ⌜ (table .variables < 64) × (length (now plan) ≡ choiceCount (tableIn table .variables)) ⌝ }
-    ensures { λ r. ⌜ r ≡ passes.marksByPosition (tableIn table) (now (plan .entry)) ⌝ }
+// The mark in force at each position of the first v variables, `CHANCE` at a chance and after the last variable. The plan has one
+// byte a choice, as check 21 asks.
+pub fn marks_by_position(words: &[u32; 64], v: u8, plan: &[u8]) -> [u8; 64]
+    requires { ⌜ (v < 64) × (length (now plan) ≡ choiceCount (variablesIn (now words) v)) ⌝ }
+    ensures { λ r. ⌜ r ≡ passes.marksByPosition (variablesIn (now (words .entry)) v) (now (plan .entry)) ⌝ }
 {
-    let v = table.variables;
     let mut marks = [Plan::CHANCE; 64];
     let mut choice = 0;
     let mut p = 0;
     while p < v {
-        if is_choice_at(&table.words, Position::new(p)) {
+        if is_choice_at(words, Position::new(p)) {
             marks[p as usize] = plan[choice];
             choice += 1;
         }

@@ -143,7 +143,7 @@ module _ (t : Table) (s : List ℕ) (long : length s ≡ choiceCount (t .variabl
       (λ g. absurd (omega (arith, a .count, b .count, open-later s e d (omega arith) (b .within) (b .mark))))))
 
   -- a mark 0 is an open line's
-  mark-opened : (y : ℕ) → y < length (t .variables) → markOf t s y ≡ 0 → Opened t s (openCount (take (choiceCount (take y (t .variables))) s)) (choiceCount (take y (t .variables))) y
+  mark-opened : (y : ℕ) → y < length (t .variables) → markOf (t .variables) s y ≡ 0 → Opened t s (openCount (take (choiceCount (take y (t .variables))) s)) (choiceCount (take y (t .variables))) y
   unfolding markOf marksFrom
   mark-opened y h e = go (isChoice (getD (t .variables) y (chance 0 1))) refl (rw (getD-drop, add-zero) at e)
     where
@@ -158,12 +158,12 @@ module _ (t : Table) (s : List ℕ) (long : length s ≡ choiceCount (t .variabl
       go false c e = absurd (omega (arith, e))
 
   -- between two neighbours of the list, and before its first line, no line is open
-  before-first : {d x y : ℕ} → Opened t s 0 d x → y < length (t .variables) → y < x → markOf t s y ≡ 0 → ⊥
+  before-first : {d x y : ℕ} → Opened t s 0 d x → y < length (t .variables) → y < x → markOf (t .variables) s y ≡ 0 → ⊥
   before-first {d} {x} {y} a h l e =
       let o = mark-opened y h e in
       omega (arith, a .count, open-later s (choiceCount (take y (t .variables))) d (omega (arith, choices-later (t .variables) y x l (o .stand .chosen), a .stand .number)) (o .within) (o .mark))
 
-  between : {k d e x z y : ℕ} → Opened t s k d x → Opened t s (suc k) e z → y < length (t .variables) → x < y → y < z → markOf t s y ≡ 0 → ⊥
+  between : {k d e x z y : ℕ} → Opened t s k d x → Opened t s (suc k) e z → y < length (t .variables) → x < y → y < z → markOf (t .variables) s y ≡ 0 → ⊥
   between {k} {d} {e} {x} {z} {y} a b h l g q =
       let o = mark-opened y h q in
       let i = choiceCount (take y (t .variables)) in

@@ -24,7 +24,7 @@ use Rattle.diagram.proofs.FirstVariable.{scale-positive}
 use Rattle.decoding.proofs.Columns.{column-at}
 use Rattle.weighing.specs.declared.roots.Roots.{Roots}
 use Rattle.weighing.specs.Value.{nodePosition, value, rootedSum, variableAt, markAt, highWeight, lowWeight}
-use Rattle.weighing.specs.Weights.{RootsHeld}
+use Rattle.weighing.proofs.HeldRoots.{RootsHeld}
 use Rattle.weighing.proofs.Values.{shares-drop, weights-scale, value-false, value-true, value-step, score-rooted, scale-rooted}
 use Rattle.scoring.specs.Passes.{markAtNode, arcsOf, planArcs, recordLoss, lossesOf, Marked}
 use Rattle.scoring.specs.Valued.{nodeValues}
@@ -118,8 +118,8 @@ module _ {t : Table} {p : List ℕ} {n : ℕ} {ps hs ls ws ms : List ℕ} (m : M
       -- the roots' weights fit
       pub root-fits : (i : ℕ) → i < rs .count → RootFits rs (replicate 256 0) i
       root-fits i h =
-          let within = e .held .within i h .1 in
-          let fit = root-weights-fit t (held-rooted e) (λ i. scaleOf (drop (nodePosition t i) (t .variables))) (omega (arith, m .size)) (λ i. scale-positive (shares-drop (m .shares) (nodePosition t i))) (suc i) (omega (arith, e .all)) (getD (rs .nodes) (i + 2) 0) within in
+          let within = e .within i h .1 in
+          let fit = root-weights-fit t (held-rooted e) (λ i. scaleOf (drop (nodePosition t i) (t .variables))) (omega (arith, m .size)) (λ i. scale-positive (shares-drop (m .shares) (nodePosition t i))) (suc i) (omega (arith, e .all)) (getD (rs .nodes) i 0) within in
           (omega (arith, within, m .size), rw (root-weights-of e (replicate 256 0) (suc i) (omega arith)) (omega (arith, fit, scale-rooted t (m .formed) (m .shares), m .scaled)))
 
       -- the pass down stays within its budget: a node's number is the product of b from its position on

@@ -19,7 +19,7 @@ use Rattle.decoding.specs.Decoding.{rootAt}
 use Rattle.decoding.proofs.Rooting.{rewarded-next, rewarded-part}
 use Rattle.weighing.specs.declared.roots.Roots.{Roots}
 use Rattle.weighing.specs.Value.{nodePosition, gap, rootedSum}
-use Rattle.weighing.specs.Weights.{RootsHeld}
+use Rattle.weighing.proofs.HeldRoots.{RootsHeld}
 use Rattle.sweep.specs.Down.{dot, added, rootWeights, rootWeightsOf, rootWeight}
 use Rattle.decoding.specs.Decoding.{Rooted}
 use Rattle.sweep.proofs.Transposing.{added-length, dot-added, dot-zeros, dot-term}
@@ -81,26 +81,26 @@ root-weights-cell t rooted ws long m (suc i) h =
 -- ---------------------------------------------------------------------------
 -- From arrays
 
-pub root-weights-of-next : (rs : Roots) (ws : List ℕ) (i : ℕ) → rootWeightsOf rs (i + 1) ws ≡ added (rootWeightsOf rs i ws) (getD (rs .nodes) (i + 2) 0) (getD (rs .weights) (i + 2) 0)
+pub root-weights-of-next : (rs : Roots) (ws : List ℕ) (i : ℕ) → rootWeightsOf rs (i + 1) ws ≡ added (rootWeightsOf rs i ws) (getD (rs .nodes) i 0) (getD (rs .weights) i 0)
 unfolding rootWeightsOf
 root-weights-of-next rs ws i = rw (add-one i) refl
 
 -- the sum that root i makes at its node
-pub root-weight-fits : (rs : Roots) (ws : List ℕ) (i : ℕ) → let node = getD (rs .nodes) (i + 2) 0 in node < length (rootWeightsOf rs i ws) → getD (rootWeightsOf rs (suc i) ws) node 0 ≤ 2 ^ 56 → getD (rootWeightsOf rs i ws) node 0 + getD (rs .weights) (i + 2) 0 ≤ 2 ^ 56
+pub root-weight-fits : (rs : Roots) (ws : List ℕ) (i : ℕ) → let node = getD (rs .nodes) i 0 in node < length (rootWeightsOf rs i ws) → getD (rootWeightsOf rs (suc i) ws) node 0 ≤ 2 ^ 56 → getD (rootWeightsOf rs i ws) node 0 + getD (rs .weights) i 0 ≤ 2 ^ 56
 unfolding rootWeightsOf added
-root-weight-fits rs ws i l h = rw (getD-set-same (rootWeightsOf rs i ws) (getD (rs .nodes) (i + 2) 0) _ 0 l) at h
+root-weight-fits rs ws i l h = rw (getD-set-same (rootWeightsOf rs i ws) (getD (rs .nodes) i 0) _ 0 l) at h
 
 module _ {t : Table} {rs : Roots} (e : RootsHeld t rs) where
   -- the roots are records' nodes
   pub held-rooted : Rooted t
   held-rooted i h =
       let less : i < rs .count = omega (arith, e .all) in
-      let within = e .held .within i less in
-      (omega (arith, e .held .node i less, within .0), omega (arith, e .held .node i less, within .1))
+      let within = e .within i less in
+      (omega (arith, e .node i less, within .0), omega (arith, e .node i less, within .1))
 
   -- the arrays bring what the table's roots do
   pub root-weights-of : (ws : List ℕ) (i : ℕ) → i ≤ rs .count → rootWeightsOf rs i ws ≡ rootWeights t i ws
   unfolding rootWeightsOf rootWeights
   root-weights-of ws zero h = refl
   root-weights-of ws (suc i) h =
-      rw (root-weights-of ws i (omega arith), e .held .node i (omega arith), e .held .weight i (omega arith)) refl
+      rw (root-weights-of ws i (omega arith), e .node i (omega arith), e .weight i (omega arith)) refl

@@ -8,7 +8,7 @@ use lib.Dec.{eqb}
 use Rattle.diagram.specs.Table.{Table}
 use Rattle.decoding.specs.Decoding.{rootAt}
 use Rattle.weighing.specs.declared.roots.Roots.{Roots}
-use Rattle.weighing.specs.Value.{nodePosition, gap}
+use Rattle.weighing.specs.Weights.{rootBrings}
 use Rattle.scoring.specs.Passes.{Arcs}
 
 -- The sum of weight times value over the nodes below n
@@ -32,24 +32,24 @@ rootWeights t (suc i) ws =
     added
     (rootWeights t i ws)
     (rootAt (t .roots) i .node)
-    (rootAt (t .roots) i .reward * gap t 0 (nodePosition t (rootAt (t .roots) i .node)))
+    (rootBrings t i)
 
 -- The same from the arrays that hold the roots
 unfoldable pub rootWeightsOf : Roots → (i : ℕ) → (weights : List ℕ) → List ℕ
 rootWeightsOf rs zero ws = ws
-rootWeightsOf rs (suc i) ws = added (rootWeightsOf rs i ws) (getD (rs .nodes) (i + 2) 0) (getD (rs .weights) (i + 2) 0)
+rootWeightsOf rs (suc i) ws = added (rootWeightsOf rs i ws) (getD (rs .nodes) i 0) (getD (rs .weights) i 0)
 
 -- The sum that root i makes at its node fits
 abbrev pub RootFits : Roots → (weights : List ℕ) → (i : ℕ) → Type 0
 RootFits rs ws i =
-    (getD (rs .nodes) (i + 2) 0 < 256) × (getD (rootWeightsOf rs (suc i) ws) (getD (rs .nodes) (i + 2) 0) 0 ≤ 2 ^ 56)
+    (getD (rs .nodes) i 0 < 256) × (getD (rootWeightsOf rs (suc i) ws) (getD (rs .nodes) i 0) 0 ≤ 2 ^ 56)
 
 -- What the first i roots bring to node m
 unfoldable pub rootWeight : Table → (m i : ℕ) → ℕ
 rootWeight t m zero = 0
 rootWeight t m (suc i) =
     rootWeight t m i
-    + cond (eqb (rootAt (t .roots) i .node) m) (rootAt (t .roots) i .reward * gap t 0 (nodePosition t (rootAt (t .roots) i .node))) 0
+    + cond (eqb (rootAt (t .roots) i .node) m) (rootBrings t i) 0
 
 -- Node m hands its weight on to its two children
 unfoldable pub handOn : Arcs → (m : ℕ) → (weights : List ℕ) → List ℕ

@@ -38,8 +38,8 @@ pub fn enter(roots: Roots, paths: &mut [u64; 256])
 {
     let mut i = 0;
     while i < roots.count {
-        let node = Node::new(roots.nodes[i + 2]);
-        add(paths, node, roots.weights[i + 2]);
+        let node = Node::new(roots.nodes[i]);
+        add(paths, node, roots.weights[i]);
         i += 1;
     }
 }

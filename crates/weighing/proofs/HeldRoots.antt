@@ -1,55 +1,51 @@
--- The roots in arrays: filled one after the other, each with the product of b before its node, which is a quotient.
+-- The roots in arrays, each with the product of b before its node, which is a quotient.
 -- Assumes of the decoded table that it is accepted (`Sound`), where a law says so.
 use Prim.Native.Nat.{ℕ, _+_, _-_, _*_, _/_, _≤_, _<_, _^_}
-use native.Mathlib.Nat.{eq-or-lt-of-le, mul-le-mul-left}
+use native.Mathlib.Nat.{zero-add, mul-le-mul-left, mul-le-mul-right}
 use native.Mathlib.Omega.{arith}
-use mathlib.Core.Path.{_≡_, refl, _∙_}
-use mathlib.Core.Logic.{⊎-elim}
+use mathlib.Core.Path.{_≡_, refl, ap, sym, _∙_}
 use mathlib.Core.List.{List}
-use lib.ListN.{length, getD, set, drop}
-use lib.Seq.{getD-set-same, getD-set-other}
-use Rattle.diagram.specs.Table.{Table, scaleOf}
+use lib.ListN.{length, getD, drop}
+use Rattle.diagram.specs.Table.{Table, Root, sequence, scaleOf}
 use Rattle.diagram.proofs.Locality.{position-le}
 use Rattle.diagram.proofs.FirstVariable.{scale-positive}
+use Rattle.diagram.proofs.Places.{sequence-length, sequence-at}
 use Rattle.decoding.specs.declared.table.Decoded.{Decoded}
-use Rattle.decoding.specs.Decoding.{tableIn, rootAt, Sound}
-use Rattle.decoding.proofs.Standing.{records-in}
+use Rattle.decoding.specs.Decoding.{padTo, rootAt, rootNodes, tableIn, Valid, Sound}
+use Rattle.decoding.proofs.Padding.{pad-at}
+use Rattle.decoding.proofs.Standing.{records-in, roots-in, root-in, sequence-same}
+use Rattle.weighing.specs.declared.roots.Roots.{Roots}
 use Rattle.weighing.specs.Value.{nodePosition, gap}
-use Rattle.weighing.specs.Weights.{products, RootsHeldTo}
+use Rattle.weighing.specs.Weights.{products, rootWeightBy, RootWeighable, rootWeightsBy, rootBrings, rootsOf}
 use Rattle.weighing.proofs.Values.{shares-drop, gap-scale}
 use Rattle.weighing.proofs.Arcing.{products-at, position-in, suffix-gap}
 
 -- ---------------------------------------------------------------------------
--- Filling the arrays
+-- What the arrays hold
 
-pub held-start : {t : Table} {ns ws : List ℕ} → RootsHeldTo t 0 ns ws
-held-start = record { within = λ i h. absurd (omega arith); node = λ i h. absurd (omega arith); weight = λ i h. absurd (omega arith) }
+pub record RootsHeld (t : Table) (rs : Roots) : Type 0 where
+  pub all : rs .count ≡ length (t .roots)
+  pub few : rs .count ≤ 16
+  pub within : (i : ℕ) → i < rs .count → (2 ≤ getD (rs .nodes) i 0) × (getD (rs .nodes) i 0 < length (t .records) + 2)
+  pub node : (i : ℕ) → i < rs .count → getD (rs .nodes) i 0 ≡ rootAt (t .roots) i .node
+  pub weight : (i : ℕ) → i < rs .count → getD (rs .weights) i 0 ≡ rootBrings t i
 
-module _ {t : Table} {n : ℕ} {ns ws : List ℕ} (e : RootsHeldTo t n ns ws) (sizes : (n + 2 < length ns) × (n + 2 < length ws)) {x w : ℕ} (is : x ≡ rootAt (t .roots) n .node) (within : (2 ≤ x) × (x < length (t .records) + 2)) (weighs : w ≡ rootAt (t .roots) n .reward * gap t 0 (nodePosition t (rootAt (t .roots) n .node))) where
-  node-here : getD (set ns (n + 2) x) (n + 2) 0 ≡ x
-  node-here = getD-set-same ns (n + 2) x 0 (sizes .0)
+-- a list of numbers for each root, in an array
+in-array : (f : ℕ → ℕ) (n i : ℕ) → i < n → getD (padTo 16 (sequence f 0 n)) i 0 ≡ f i
+in-array f n i h =
+    pad-at 16 (sequence f 0 n) i (omega (arith, sequence-length f 0 n)) ∙ sequence-at f 0 n i 0 h ∙ ap f (zero-add i)
 
-  node-other : (i : ℕ) → i < n → getD (set ns (n + 2) x) (i + 2) 0 ≡ getD ns (i + 2) 0
-  node-other i h = getD-set-other ns (n + 2) (i + 2) x 0 (omega arith)
-
-  pub held-next : RootsHeldTo t (n + 1) (set ns (n + 2) x) (set ws (n + 2) w)
-  held-next =
-      record {
-        within = λ i h. ⊎-elim
-            (λ q.
-            let here : getD (set ns (n + 2) x) (i + 2) 0 ≡ x = rw q node-here in
-            rw here within)
-            (λ q. rw (node-other i q) (e .within i q))
-            (eq-or-lt-of-le {n = i} {m = n} (omega arith));
-        node = λ i h. ⊎-elim
-            (λ q. rw q (node-here ∙ is))
-            (λ q. node-other i q ∙ e .node i q)
-            (eq-or-lt-of-le {n = i} {m = n} (omega arith));
-        weight = λ i h. ⊎-elim
-            (λ q. rw q (getD-set-same ws (n + 2) w 0 (sizes .1) ∙ weighs))
-            (λ q. getD-set-other ws (n + 2) (i + 2) w 0 (omega arith) ∙ e .weight i q)
-            (eq-or-lt-of-le {n = i} {m = n} (omega arith));
-      }
+pub roots-held : {t : Table} → Valid t → {rs : Roots} → rs ≡ rootsOf t → RootsHeld t rs
+unfolding rootsOf rootNodes
+roots-held {t} valid e =
+    let node = in-array (λ j. rootAt (t .roots) j .node) (length (t .roots)) in
+    rw e (record {
+      all = refl;
+      few = valid .roots;
+      within = λ i h. rw (node i h) (valid .rooted i h);
+      node = node;
+      weight = in-array (rootBrings t) (length (t .roots));
+    })
 
 -- ---------------------------------------------------------------------------
 -- The product of b before a node
@@ -92,3 +88,40 @@ module _ {d : Decoded} (sound : Sound d) where
         let all = gap-scale (tableIn d) 0 (nodePosition (tableIn d) r) (omega arith) (position-le (sound .valid .formed) r) in
         let some = mul-le-mul-left (gap (tableIn d) 0 (nodePosition (tableIn d) r)) (scale-positive (shares-drop (sound .valid .shares) (nodePosition (tableIn d) r))) in
         omega (arith, all, some, sound .valid .product)
+
+-- ---------------------------------------------------------------------------
+-- What comes to the roots, from the arrays
+
+module _ {d : Decoded} (sound : Sound d) {pr : List ℕ} (epr : pr ≡ products (tableIn d .variables)) where
+  module _ (i : ℕ) (h : i < d .roots) where
+    root-node : getD (d .nodes) i 0 ≡ rootAt (tableIn d .roots) i .node
+    root-node = sym (ap (λ (r : Root). r .node) (root-in d i h))
+
+    root-reward : getD (d .rewards) i 0 ≡ rootAt (tableIn d .roots) i .reward
+    root-reward = sym (ap (λ (r : Root). r .reward) (root-in d i h))
+
+    node-less : getD (d .nodes) i 0 < d .records + 2
+    node-less =
+        omega (arith, root-node, records-in d, sound .valid .rooted i (omega (arith, roots-in d)) .1)
+
+    root-weight-is : rootWeightBy (d .nodes) (d .rewards) (d .positions) pr i ≡ rootBrings (tableIn d) i
+    unfolding rootWeightBy
+    root-weight-is = rw (node-weighs sound epr node-less refl refl, root-node, root-reward) refl
+
+    pub root-weighable : RootWeighable (d .nodes) (d .rewards) (d .positions) pr i
+    root-weighable =
+        let within = node-within sound epr node-less refl in
+        let product = node-weight-fits sound epr node-less refl in
+        let reward = sound .valid .rewards i (omega (arith, roots-in d)) in
+        record {
+          at = within .0;
+          positive = within .1;
+          fits = omega (arith, root-weight-is, root-node, rw root-node at product, mul-le-mul-right (gap (tableIn d) 0 (nodePosition (tableIn d) (rootAt (tableIn d .roots) i .node))) reward);
+        }
+
+  -- the roots with what comes to them are the table's
+  pub roots-are : {ws : List ℕ} → ws ≡ rootWeightsBy (d .nodes) (d .rewards) (d .positions) pr (d .roots) → _≡_ {A = Roots} (record { count = d .roots; nodes = d .nodes; weights = ws }) (rootsOf (tableIn d))
+  unfolding rootsOf
+  roots-are e =
+      let weights = sequence-same (rootWeightBy (d .nodes) (d .rewards) (d .positions) pr) (rootBrings (tableIn d)) 0 0 (d .roots) (λ i h. rw (zero-add i) (root-weight-is i h)) in
+      rw (roots-in d, ← sound .held .nodes, e, weights) refl

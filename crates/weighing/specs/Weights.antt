@@ -4,7 +4,7 @@ use mathlib.Core.Path.{_≡_}
 use mathlib.Core.List.{List}
 use lib.ListN.{length, getD, set, drop}
 use Rattle.diagram.specs.Table.{Variable, Table, chance, sequence, scaleOf}
-use Rattle.decoding.specs.Decoding.{rootAt}
+use Rattle.decoding.specs.Decoding.{padTo, rootAt, rootNodes}
 use Rattle.ordering.specs.Numbers.{highArcNumber, lowArcNumber}
 use Rattle.weighing.specs.declared.roots.Roots.{Roots}
 use Rattle.weighing.specs.Value.{nodePosition, gap, highShare, lowShare, highArc, lowArc}
@@ -52,14 +52,29 @@ tableArcs t n old = arcsOver (highArc t) (lowArc t) n old
 -- ---------------------------------------------------------------------------
 -- Roots
 
--- The first n roots of a table in arrays: at i + 2 the node of root i, and what comes to it, its reward times b of each variable before the node
-pub record RootsHeldTo (t : Table) (n : ℕ) (nodes weights : List ℕ) : Type 0 where
-  pub within : (i : ℕ) → i < n → (2 ≤ getD nodes (i + 2) 0) × (getD nodes (i + 2) 0 < length (t .records) + 2)
-  pub node : (i : ℕ) → i < n → getD nodes (i + 2) 0 ≡ rootAt (t .roots) i .node
-  pub weight : (i : ℕ) → i < n → getD weights (i + 2) 0 ≡ rootAt (t .roots) i .reward * gap t 0 (nodePosition t (rootAt (t .roots) i .node))
+-- What comes to root i, from the arrays: its reward times the quotient of the products at the first position and at its node's
+unfoldable pub rootWeightBy : (nodes rewards positions products : List ℕ) → (i : ℕ) → ℕ
+rootWeightBy ns rs ps qs i = getD rs i 0 * (getD qs 0 0 / getD qs (getD ps (getD ns i 0) 0) 0)
 
--- All roots of a table
-pub record RootsHeld (t : Table) (rs : Roots) : Type 0 where
-  pub all : rs .count ≡ length (t .roots)
-  pub few : rs .count ≤ 16
-  pub held : RootsHeldTo t (rs .count) (rs .nodes) (rs .weights)
+-- The arrays have what that weight is computed from, and it fits
+pub record RootWeighable (ns rs ps qs : List ℕ) (i : ℕ) : Type 0 where
+  pub at : getD ps (getD ns i 0) 0 < 64
+  pub positive : 0 < getD qs (getD ps (getD ns i 0) 0) 0
+  pub fits : rootWeightBy ns rs ps qs i < 2 ^ 64
+
+-- What comes to the first n roots, from the arrays
+abbrev pub rootWeightsBy : (nodes rewards positions products : List ℕ) → (n : ℕ) → List ℕ
+rootWeightsBy ns rs ps qs n = padTo 16 (sequence (rootWeightBy ns rs ps qs) 0 n)
+
+-- What comes to root i: its reward times b of each variable before its node
+abbrev pub rootBrings : Table → (i : ℕ) → ℕ
+rootBrings t i = rootAt (t .roots) i .reward * gap t 0 (nodePosition t (rootAt (t .roots) i .node))
+
+-- The roots of a table, with the node of each and what comes to it
+unfoldable pub rootsOf : Table → Roots
+rootsOf t =
+    record {
+      count = length (t .roots);
+      nodes = padTo 16 (rootNodes (t .roots));
+      weights = padTo 16 (sequence (rootBrings t) 0 (length (t .roots)));
+    }

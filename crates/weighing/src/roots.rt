@@ -1,46 +1,41 @@
-// The roots of a table as the passes want them.
-use decoding::Decoded;
+// What comes to the roots of a table.
 use decoding::position_of;
 use terms::Node;
 use terms::Position;
 ghost use mathlib.Core.Path.{_≡_};
-ghost use Prim.Native.Nat.{_/_, _<_};
+ghost use Prim.Native.Nat.{ℕ, _/_, _≤_, _<_};
 ghost use lib.ListN.{getD};
-ghost use Rattle.decoding.specs.Decoding.{tableIn, Sound};
-ghost use Rattle.weighing.specs.Weights as weights;
-ghost use Rattle.weighing.specs.Weights.{RootsHeld};
+ghost use Rattle.weighing.specs.Weights.{rootWeightsBy, RootWeighable};
 
-// The roots of a table: how many they are, and at i + 2 the node of root i and what comes to it, its reward times the product of
-// b before the node. The nodes stand as the children of records do, in an array of 256, so that one function lists both (`layers`).
+// The roots of a table: how many they are, and the node of each and what comes to it, its reward times the product of b before the
+// node; zeros after the last one.
 pub struct Roots {
     pub count: usize,
-    pub nodes: [u8; 256],
-    pub weights: [u64; 32],
+    pub nodes: [u8; 16],
+    pub weights: [u64; 16],
 }
 
-// The roots of an accepted table, by the products of b.
-pub fn roots_of(table: Decoded, products: &[u64; 64]) -> Roots
-    requires sound { ⌜ Sound table ⌝ }
-    requires products { ⌜ now products ≡ weights.products (tableIn table .variables) ⌝ }
-    ensures { λ r. ⌜ RootsHeld (tableIn table) r ⌝ }
+// What comes to the first `count` roots, by the products of b, and zeros after. `lay_out` has the arrays of an accepted table.
+pub fn root_weights<'a>(
+    count: usize,
+    nodes: &'a [u8; 16],
+    rewards: &'a [u64; 16],
+    positions: &'a [u8; 256],
+    products: &[u64; 64],
+) -> [u64; 16]
+    requires few { ⌜ count ≤ 16 ⌝ }
+    requires weighable { ⌜ ((i : ℕ) → i < count → RootWeighable (now nodes) (now rewards) (now positions) (now products) i) ⌝ }
+    ensures { λ r. ⌜ r ≡ rootWeightsBy (now (nodes .entry)) (now (rewards .entry)) (now (positions .entry)) (now (products .entry)) count ⌝ }
 {
-    let mut nodes = [0u8; 256];
-    let mut weights = [0u64; 32];
-    let count = table.roots;
+    let mut weights = [0u64; 16];
     let mut i = 0;
     while i < count {
-        let node = Node::new(table.nodes[i]);
-        let reward = table.rewards[i];
-        nodes[i + 2] = node.byte();
-        let before = product_before(products, position_of(&table.positions, node));
-        weights[i + 2] = reward * before;
+        let node = Node::new(nodes[i]);
+        let before = product_before(products, position_of(positions, node));
+        weights[i] = rewards[i] * before;
         i += 1;
     }
-    Roots {
-        count,
-        nodes,
-        weights,
-    }
+    weights
 }
 
 // The product of b before a position.

@@ -3,7 +3,7 @@ use crate::arcs::arc_weight;
 use crate::arcs::products;
 use crate::arcs::shares_by_position;
 use crate::roots::Roots;
-use crate::roots::roots_of;
+use crate::roots::root_weights;
 use decoding::Decoded;
 use ordering::HIGH_ARCS;
 use ordering::LOW_ARCS;
@@ -11,14 +11,14 @@ use terms::Node;
 ghost use mathlib.Core.Path.{_≡_};
 ghost use lib.ListN.{length};
 ghost use Rattle.decoding.specs.Decoding.{tableIn, Sound};
-ghost use Rattle.weighing.specs.Weights.{tableArcs, RootsHeld};
+ghost use Rattle.weighing.specs.Weights.{tableArcs, rootsOf};
 
 // Writes the weights of the arcs of an accepted table's records, by the arcs' numbers, and answers the roots.
 pub fn lay_out(table: Decoded, arcs: &mut [u64; 544]) -> Roots
     requires sound { ⌜ Sound table ⌝ }
     requires size { ⌜ length (now arcs) ≡ 544 ⌝ }
     ensures arcs { λ _. ⌜ now (arcs .exit) ≡ tableArcs (tableIn table) (table .records) (now (arcs .entry)) ⌝ }
-    ensures roots { λ r. ⌜ RootsHeld (tableIn table) r ⌝ }
+    ensures roots { λ r. ⌜ r ≡ rootsOf (tableIn table) ⌝ }
 {
     let products = products(&table.words, table.variables);
     let shares = shares_by_position(&table.words, table.variables);
@@ -36,5 +36,17 @@ pub fn lay_out(table: Decoded, arcs: &mut [u64; 544]) -> Roots
         arcs[k + LOW_ARCS] = arc_weight(&products, &shares.low, &table.positions, &table.low, node);
         k += 1;
     }
-    roots_of(table, &products)
+    let weights = root_weights(
+        table.roots,
+        &table.nodes,
+        &table.rewards,
+        &table.positions,
+        &products,
+    );
+    let nodes = table.nodes;
+    Roots {
+        count: table.roots,
+        nodes,
+        weights,
+    }
 }

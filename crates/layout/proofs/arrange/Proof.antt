@@ -6,7 +6,7 @@ use lib.ListN.{length, getD}
 use Rattle.diagram.specs.Table.{Root}
 use Rattle.decoding.specs.Decoding.{tableIn, rootAt}
 use Rattle.decoding.proofs.Standing.{variables-in, roots-in, root-in}
-use Rattle.weighing.proofs.HeldRoots.{records-few}
+use Rattle.weighing.proofs.HeldRoots.{RootsHeld, roots-held, records-few}
 use Rattle.scoring.specs.Passes.{Marked}
 use Rattle.scoring.proofs.Bounding.{marked}
 use Rattle.scoring.proofs.Passing.{position-within}
@@ -34,11 +34,15 @@ holds c =
     let valued = c .value-plan .ensures in
     marked (pre .0) _ (pre .1 .0) (pre .1 .1) (valued .arcs) (valued .marks)
 
+-- the roots are the table's
+roots-are : (c : tie.After-value-plan) → RootsHeld (tableIn (c .before .before .before .before .before .args .t1)) (c .value-plan .result .roots)
+roots-are c = roots-held (c .before .before .before .before .before .pre .0 .valid) (c .value-plan .ensures .roots)
+
 -- a root's node
 root-node : (c : tie.After-value-plan) (k : ℕ) → k < c .value-plan .result .roots .count → let t = c .before .before .before .before .before .args .t1 in getD (t .nodes) k 0 ≡ rootAt (tableIn t .roots) k .node
 root-node c k h =
     let d = c .before .before .before .before .before .args .t1 in
-    sym (ap (λ (r : Root). r .node) (root-in d k (omega (arith, roots-in d, c .value-plan .ensures .roots .all))))
+    sym (ap (λ (r : Root). r .node) (root-in d k (omega (arith, roots-in d, roots-are c .all))))
 
 value-plan-requires : tie.Need-value-plan-requires
 value-plan-requires c κs =
@@ -58,7 +62,7 @@ lay-arcs-requires : tie.Need-lay-arcs-requires
 lay-arcs-requires c κs =
     let start = c .before .before .before .before .before .before .before .before .before .before .before .before .before .before in
     let m = holds (c .before .before .before .before .before .before .before .before .before) in
-    let roots = c .before .before .before .before .before .before .before .before .before .value-plan .ensures .roots in
+    let roots = roots-are (c .before .before .before .before .before .before .before .before .before) in
     let monotone = start .pre .0 .valid .monotone in
     let n = few start in
     let o = ordered (c .before .before .before .before) in
@@ -74,21 +78,22 @@ losses-by-rank-requires c κs =
     let start = c .before .before .before .before .before .before .before .before .before .before .before .before .before .before .before .before .before .before .before .before .before .before .before in
     let at = c .before .before .before .before .before .before .before .before .before .before .before .before .before .before .before .before .before .before in
     let n = few start in
-    (n .1, nodes-within (holds at) (start .pre .0 .valid .monotone) (n .0) (at .value-plan .ensures .roots) (ordered (c .before .before .before .before .before .before .before .before .before .before .before .before .before)))
+    (n .1, nodes-within (holds at) (start .pre .0 .valid .monotone) (n .0) (roots-are at) (ordered (c .before .before .before .before .before .before .before .before .before .before .before .before .before)))
 
 returns : tie.Need-returns
 returns c =
     let start = c .before .before .before .before .before .before .before .before .before .before .before .before .before .before .before .before .before .before .before .before .before .before .before .before .before .before .before .before in
     let d = start .args .t1 in
     let valid = start .pre .0 .valid in
-    let valued = c .before .before .before .before .before .before .before .before .before .before .before .before .before .before .before .before .before .before .before .before .before .before .before .value-plan .ensures in
-    let m = holds (c .before .before .before .before .before .before .before .before .before .before .before .before .before .before .before .before .before .before .before .before .before .before .before) in
+    let at = c .before .before .before .before .before .before .before .before .before .before .before .before .before .before .before .before .before .before .before .before .before .before .before in
+    let valued = at .value-plan .ensures in
+    let m = holds at in
     let nodes = c .before .before .before .before .before .before .before .before .before .before .before .before .before .before .before .before .before .before .order-records in
     record {
       order = _;
       arranged = record {
         bounded = valued .bound;
-        layered = layered m (valid .monotone) (few start .0) (valued .roots) (ordered (c .before .before .before .before .before .before .before .before .before .before .before .before .before .before .before .before .before .before)) (valued .values) (d .nodes) (root-node (c .before .before .before .before .before .before .before .before .before .before .before .before .before .before .before .before .before .before .before .before .before .before .before)) (c .before .before .before .before .before .before .before .before .before .before .before .before .before .lay-arcs .ensures) (c .before .before .before .before .before .before .before .before .losses .ensures) (c .before .before .before .before .losses-by-rank .ensures);
+        layered = layered m (valid .monotone) (few start .0) (roots-are at) (ordered (c .before .before .before .before .before .before .before .before .before .before .before .before .before .before .before .before .before .before)) (valued .values) (d .nodes) (root-node at) (c .before .before .before .before .before .before .before .before .before .before .before .before .before .lay-arcs .ensures) (c .before .before .before .before .before .before .before .before .losses .ensures) (c .before .before .before .before .losses-by-rank .ensures);
         ending = ending m (variables start) (nodes .ensures .list) (valid .variables .0) (nodes .ensures .starts);
       };
     }

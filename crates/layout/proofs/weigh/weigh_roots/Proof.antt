@@ -11,7 +11,7 @@ use Rattle.layout.proofs.weigh.weigh_roots.Tie as tie
 
 abbrev Inv-loop : tie.InvT-loop
 Inv-loop weights₀ roots i₀ weights i =
-    (i ≤ roots .count) × (roots .count ≤ 16) × (length weights ≡ 544) × (weights ≡ sets weights₀ 514 (sequence (λ (j : ℕ). getD (roots .weights) (j + 2) 0) 0 i))
+    (i ≤ roots .count) × (roots .count ≤ 16) × (length weights ≡ 544) × (weights ≡ sets weights₀ 514 (sequence (λ (j : ℕ). getD (roots .weights) j 0) 0 i))
 
 abbrev μ-loop : tie.MeasureT-loop
 μ-loop weights₀ roots i₀ weights i = roots .count - i
@@ -19,17 +19,14 @@ abbrev μ-loop : tie.MeasureT-loop
 loop-holds : tie.Need-loop-holds Inv-loop μ-loop
 loop-holds c = (omega arith, c .pre .0, c .pre .1, bring-none _ _)
 
-add-weights : tie.Need-add-weights Inv-loop μ-loop
-add-weights c = omega (arith, c .before .loop .inv)
-
 mul-weights : tie.Need-mul-weights Inv-loop μ-loop
 mul-weights c = omega (arith, c .before .loop .inv)
 
 element-copy-out-weights : tie.Need-element-copy-out-weights Inv-loop μ-loop
 element-copy-out-weights c = omega (arith, c .before .loop .inv)
 
-add-weights-2 : tie.Need-add-weights-2 Inv-loop μ-loop
-add-weights-2 c = omega (arith, c .before .before .loop .inv)
+add-weights : tie.Need-add-weights Inv-loop μ-loop
+add-weights c = omega (arith, c .before .before .loop .inv)
 
 mul-weights-2 : tie.Need-mul-weights-2 Inv-loop μ-loop
 mul-weights-2 c = omega (arith, c .before .before .loop .inv)
@@ -58,10 +55,9 @@ weigh-roots-spec =
     Inv-loop
     μ-loop
     loop-holds
-    add-weights
     mul-weights
     element-copy-out-weights
-    add-weights-2
+    add-weights
     mul-weights-2
     element-write-weights
     add-i

@@ -21,11 +21,11 @@ abbrev μ-loop : tie.MeasureT-loop
 
 -- the sum after a turn, which fits
 module _ (c : tie.After-value-of Inv-loop μ-loop) where
-  next : c .before .before .before .before .before .loop .sum + getD (c .before .before .before .before .before .before .args .t1 .weights) (c .before .before .before .before .before .loop .i + 2) 0 * c .value-of .result ≡ rootSum (c .before .before .before .before .before .before .args .t1) (c .before .before .before .before .before .before .args .values .now) (c .before .before .before .before .before .loop .i + 1)
+  next : c .before .before .before .before .before .loop .sum + getD (c .before .before .before .before .before .before .args .t1 .weights) (c .before .before .before .before .before .loop .i) 0 * c .value-of .result ≡ rootSum (c .before .before .before .before .before .before .args .t1) (c .before .before .before .before .before .before .args .values .now) (c .before .before .before .before .before .loop .i + 1)
   next =
       rw (c .value-of .ensures, c .before .before .new .ensures, c .before .before .before .before .before .loop .inv .3) (sym (root-sum-next (c .before .before .before .before .before .before .args .t1) (c .before .before .before .before .before .before .args .values .now) (c .before .before .before .before .before .loop .i)))
 
-  fits : c .before .before .before .before .before .loop .sum + getD (c .before .before .before .before .before .before .args .t1 .weights) (c .before .before .before .before .before .loop .i + 2) 0 * c .value-of .result ≤ 2 ^ 56
+  fits : c .before .before .before .before .before .loop .sum + getD (c .before .before .before .before .before .before .args .t1 .weights) (c .before .before .before .before .before .loop .i) 0 * c .value-of .result ≤ 2 ^ 56
   fits =
       let roots = c .before .before .before .before .before .before .args .t1 in
       omega (arith, next, c .before .before .before .before .before .loop .inv .2, root-sum-le roots (c .before .before .before .before .before .before .args .values .now) (c .before .before .before .before .before .loop .i + 1) (roots .count) (omega arith))
@@ -34,17 +34,11 @@ loop-holds : tie.Need-loop-holds Inv-loop μ-loop
 unfolding rootSum
 loop-holds c = (omega arith, c .pre .0, c .pre .1, refl)
 
-add-new : tie.Need-add-new Inv-loop μ-loop
-add-new c = search needs
-
 element-copy-out-new : tie.Need-element-copy-out-new Inv-loop μ-loop
 element-copy-out-new c = omega (arith, c .before .loop .inv .1)
 
 new-requires : tie.Need-new-requires Inv-loop μ-loop
 new-requires c κs = search needs
-
-add-sum : tie.Need-add-sum Inv-loop μ-loop
-add-sum c = search needs
 
 mul-sum : tie.Need-mul-sum Inv-loop μ-loop
 mul-sum c = omega (arith, c .before .before .before .loop .inv .1)
@@ -58,8 +52,8 @@ value-of-requires c κs = search needs
 mul-sum-2 : tie.Need-mul-sum-2 Inv-loop μ-loop
 mul-sum-2 c = omega (arith, fits c)
 
-add-sum-2 : tie.Need-add-sum-2 Inv-loop μ-loop
-add-sum-2 c = omega (arith, fits c)
+add-sum : tie.Need-add-sum Inv-loop μ-loop
+add-sum c = omega (arith, fits c)
 
 add-i : tie.Need-add-i Inv-loop μ-loop
 add-i c = omega arith
@@ -85,15 +79,13 @@ root-sum-spec =
     Inv-loop
     μ-loop
     loop-holds
-    add-new
     element-copy-out-new
     new-requires
-    add-sum
     mul-sum
     element-copy-out-sum
     value-of-requires
     mul-sum-2
-    add-sum-2
+    add-sum
     add-i
     loop-less
     loop-again

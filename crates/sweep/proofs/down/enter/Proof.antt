@@ -21,17 +21,11 @@ loop-holds : tie.Need-loop-holds Inv-loop μ-loop
 unfolding rootWeightsOf
 loop-holds c = (omega arith, c .pre .0 .0, c .pre .1, refl)
 
-add-new : tie.Need-add-new Inv-loop μ-loop
-add-new c = search needs
-
 element-copy-out-new : tie.Need-element-copy-out-new Inv-loop μ-loop
 element-copy-out-new c = omega (arith, c .before .loop .inv .1)
 
 new-requires : tie.Need-new-requires Inv-loop μ-loop
 new-requires c κs = search needs
-
-add-add : tie.Need-add-add Inv-loop μ-loop
-add-add c = search needs
 
 mul-add : tie.Need-mul-add Inv-loop μ-loop
 mul-add c = omega (arith, c .before .before .before .before .loop .inv .1)
@@ -46,7 +40,7 @@ add-requires c κs =
     let weights = c .before .before .before .before .before .before .args .paths .now in
     let i = c .before .before .before .before .before .loop .i in
     let enters = c .before .before .before .before .before .before .pre .0 .1 i (omega arith) in
-    let long : getD (roots .nodes) (i + 2) 0 < length (rootWeightsOf roots i weights) = rw (← inv .3, inv .2) (enters .0) in
+    let long : getD (roots .nodes) i 0 < length (rootWeightsOf roots i weights) = rw (← inv .3, inv .2) (enters .0) in
     (inv .2, rw (c .before .before .new .ensures, inv .3) (omega (arith, root-weight-fits roots weights i long (enters .1))))
 
 add-i : tie.Need-add-i Inv-loop μ-loop
@@ -74,10 +68,8 @@ enter-spec =
     Inv-loop
     μ-loop
     loop-holds
-    add-new
     element-copy-out-new
     new-requires
-    add-add
     mul-add
     element-copy-out-add
     add-requires

@@ -11,6 +11,7 @@ use Rattle.diagram.specs.Plans.{derivative}
 use Rattle.decoding.specs.Decoding.{tableIn}
 use Rattle.decoding.proofs.Standing.{sequence-same, choice-position-in}
 use Rattle.arrays.specs.Arrays.{over}
+use Rattle.weighing.proofs.HeldRoots.{RootsHeld, roots-held}
 use Rattle.scoring.specs.Passes.{Marked}
 use Rattle.scoring.proofs.Bounding.{marked}
 use Rattle.scoring.proofs.Gaining.{losses-fit}
@@ -26,6 +27,10 @@ holds c =
     let valued = c .value-plan .ensures in
     marked (pre .0) _ (pre .1 .0) (pre .1 .1) (valued .arcs) (valued .marks)
 
+-- the roots are the table's
+roots-are : (c : tie.After-value-plan) → RootsHeld (tableIn (c .before .before .before .before .before .args .t1)) (c .value-plan .result .roots)
+roots-are c = roots-held (c .before .before .before .before .before .pre .0 .valid) (c .value-plan .ensures .roots)
+
 value-plan-requires : tie.Need-value-plan-requires
 value-plan-requires c κs = (c .before .before .before .before .pre .0, (c .before .before .before .before .pre .1, (refl, refl, refl)))
 
@@ -33,21 +38,21 @@ enter-requires : tie.Need-enter-requires
 enter-requires c κs =
     let at = c .before .before in
     let valued = at .value-plan .ensures in
-    ((valued .roots .few, root-fits (holds at) (valued .inForce) (valued .roots) refl), refl)
+    ((roots-are at .few, root-fits (holds at) (valued .inForce) (roots-are at) refl), refl)
 
 pass-down-requires : tie.Need-pass-down-requires
 pass-down-requires c κs =
     let at = c .before .before .before .before .before .before .before .before in
     let valued = at .value-plan .ensures in
     let entered = c .before .before .before .before .before .enter .ensures in
-    ((holds at .size .1, (_, budget (holds at) (valued .inForce) (valued .roots) entered)), root-size (holds at) (valued .inForce) (valued .roots) entered)
+    ((holds at .size .1, (_, budget (holds at) (valued .inForce) (roots-are at) entered)), root-size (holds at) (valued .inForce) (roots-are at) entered)
 
 drops-by-position-requires : tie.Need-drops-by-position-requires
 drops-by-position-requires c κs =
     let at = c .before .before .before .before .before .before .before .before .before .before .before .before .before .before in
     let valued = at .value-plan .ensures in
     let monotone = c .before .before .before .before .before .before .before .before .before .before .before .before .before .before .before .before .before .before .before .pre .0 .valid .monotone in
-    (losses-fit (holds at) (valued .values) monotone, losing (holds at) monotone (valued .inForce) (valued .values) (valued .roots) (c .before .before .before .before .before .before .before .before .before .before .before .enter .ensures) (c .before .before .before .before .before .pass-down .ensures) refl)
+    (losses-fit (holds at) (valued .values) monotone, losing (holds at) monotone (valued .inForce) (valued .values) (roots-are at) (c .before .before .before .before .before .before .before .before .before .before .before .enter .ensures) (c .before .before .before .before .before .pass-down .ensures) refl)
 
 by-choice-requires : tie.Need-by-choice-requires
 by-choice-requires c κs =
@@ -59,7 +64,7 @@ drops : (c : tie.After-drops-by-position) → let start = c .before .before .bef
 drops c =
     let at = c .before .before .before .before .before .before .before .before .before .before .before .before .before .before .before in
     let valued = at .value-plan .ensures in
-    c .drops-by-position .ensures ∙ drops-are (holds at) (c .before .before .before .before .before .before .before .before .before .before .before .before .before .before .before .before .before .before .before .before .pre .0 .valid .monotone) (valued .inForce) (valued .values) (valued .roots) (c .before .before .before .before .before .before .before .before .before .before .before .before .enter .ensures) (c .before .before .before .before .before .before .pass-down .ensures) refl
+    c .drops-by-position .ensures ∙ drops-are (holds at) (c .before .before .before .before .before .before .before .before .before .before .before .before .before .before .before .before .before .before .before .before .pre .0 .valid .monotone) (valued .inForce) (valued .values) (roots-are at) (c .before .before .before .before .before .before .before .before .before .before .before .before .enter .ensures) (c .before .before .before .before .before .before .pass-down .ensures) refl
 
 returns : tie.Need-returns
 returns c =

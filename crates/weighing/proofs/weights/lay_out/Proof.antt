@@ -6,11 +6,12 @@ use mathlib.Core.Path.{_≡_, refl, ap, _∙_}
 use lib.ListN.{length, length-set}
 use borrow.Author.Needs.{needs}
 use Rattle.decoding.specs.Decoding.{tableIn}
-use Rattle.decoding.proofs.Standing.{variables-in, records-in}
+use Rattle.decoding.proofs.Standing.{variables-in, records-in, roots-in}
 use Rattle.weighing.specs.Value.{highArc, lowArc}
 use Rattle.weighing.specs.Weights.{products, highShares, lowShares, arcsOver, tableArcs}
 use Rattle.weighing.proofs.ByArc.{arcs-next}
 use Rattle.weighing.proofs.Arcing.{Weighs, high-weighs, low-weighs, table-variables}
+use Rattle.weighing.proofs.HeldRoots.{root-weighable, roots-are}
 use Rattle.weighing.proofs.weights.lay_out.Statement.{statement}
 use Rattle.weighing.proofs.weights.lay_out.Tie as tie
 
@@ -101,14 +102,18 @@ loop-again c =
       arcs-next _ _ _ (inv .3) (c .before .before .before .before .before .before .before .arc-weight .ensures ∙ high-arc read .weight) (c .arc-weight2 .ensures ∙ low-arc read .weight),
     )
 
-roots-of-requires : tie.Need-roots-of-requires Inv-loop μ-loop
-roots-of-requires c κs = (c .before .before .before .before .before .before .before .before .before .pre .0, products-are (c .before .before .before .before .before .before))
+root-weights-requires : tie.Need-root-weights-requires Inv-loop μ-loop
+root-weights-requires c κs =
+    let start = c .before .before .before .before .before .before .before .before .before .before .before .before .before in
+    let sound = start .pre .0 in
+    (omega (arith, roots-in (start .args .t1), sound .valid .roots), root-weighable sound (products-are (c .before .before .before .before .before .before .before .before .before .before)))
 
 returns : tie.Need-returns Inv-loop μ-loop
 returns c =
-    let at = c .before .before .before .loop in
-    let e : at .k ≡ c .before .before .before .before .before .before .before .before .before .before .args .t1 .records = omega (arith, c .before .before .loop-test .left, at .inv .0) in
-    (rw e at (at .inv .3), c .roots-of .ensures)
+    let at = c .before .before .before .before .before .before .before .before .loop in
+    let start = c .before .before .before .before .before .before .before .before .before .before .before .before .before .before .before in
+    let e : at .k ≡ start .args .t1 .records = omega (arith, c .before .before .before .before .before .before .before .loop-test .left, at .inv .0) in
+    (rw e at (at .inv .3), roots-are (start .pre .0) (products-are (c .before .before .before .before .before .before .before .before .before .before .before .before)) (c .before .root-weights .ensures))
 
 pub lay-out-spec : {M : Type 1} → statement M
 lay-out-spec =
@@ -131,5 +136,5 @@ lay-out-spec =
     add-k
     loop-less
     loop-again
-    roots-of-requires
+    root-weights-requires
     returns)
