@@ -156,8 +156,9 @@ fn line(job: &Job) {
     let mut drops = [0; 20];
     let sweeps: [f64; SWEEPERS.len()] =
         times(2000, 50, SWEEPERS, file, |p| assert!(sweep(p, black_box(file), &mut drops)));
-    let rounds = (4_000_000 / job.visits as usize).clamp(7, 200);
-    let visit: [f64; PROGRAMS.len()] = times(rounds, 1, PROGRAMS, file, |p| {
+    let rounds = (4_000_000 / job.visits as usize).clamp(7, 1000);
+    let calls = (1000 / job.visits as u32).max(1);
+    let visit: [f64; PROGRAMS.len()] = times(rounds, calls, PROGRAMS, file, |p| {
         black_box(search(p, black_box(file), job.kits)).0.ok();
     })
     .map(|x| x / job.visits as f64);
@@ -195,7 +196,7 @@ pub fn table() {
     for (needed, kits, roots) in [(10, 3, 0), (10, 5, 0), (8, 9, 0), (10, 5, 2), (10, 5, 16)] {
         line(&threshold(needed, kits, roots));
     }
-    for (wanted, roots) in [(10_000, 0), (100_000, 0), (1_000_000, 0), (100_000, 2), (100_000, 16)] {
+    for (wanted, roots) in [(40, 0), (40, 16), (10_000, 0), (100_000, 0), (1_000_000, 0), (100_000, 2), (100_000, 16)] {
         line(&layered(wanted, roots));
     }
 }

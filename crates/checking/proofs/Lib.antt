@@ -1,3 +1,2 @@
--- Laws for the proofs of this crate's functions: numbers of a file's first variables, and positions in an array.
+-- Laws for the proofs of this crate's functions: numbers of a file's first variables.
 pub mod Counting
-pub mod Positioning

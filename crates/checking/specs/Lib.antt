@@ -1,3 +1,2 @@
--- The numbers of a file that have a limit, and check 17 by the positions in an array.
+-- The numbers of a file that have a limit.
 pub mod Limited
-pub mod Positioning

@@ -18,8 +18,8 @@ ghost use Rattle.decoding.specs.Decoding.{padTo};
 // How many records an array by node number has room for: as many as a table may have.
 const ROOM: usize = MOST_RECORDS as usize;
 
-// Copies the records of a file that the checks 12 and 17 let through, and marks the ends' position. The lengths are the
-// arrays' own.
+// Copies the records of a file that the checks 12 and 17 let through, marks the ends' position, and writes zeros after the last record.
+// The lengths are the arrays' own.
 pub fn decode_records(
     file: &[u8],
     positions: &mut [u8; 256],
@@ -50,7 +50,7 @@ pub fn decode_records(
     clear(low, n);
 }
 
-// Writes zeros to the cells of the records from n on, of which there are none.
+// Writes zeros to the cells after the last of n records.
 fn clear(cells: &mut [u8; 256], n: usize)
     requires { ⌜ (n ≤ 254) × (length (now cells) ≡ 256) ⌝ }
     ensures { λ _. ⌜ now (cells .exit) ≡ padTo 256 (take (n + 2) (now (cells .entry))) ⌝ }

@@ -21,14 +21,14 @@ pub struct Root {
 }
 
 // How many roots there are, and by number the node and the reward of each; the cells after the last root are 0.
-pub struct Roots {
+pub struct RootEntries {
     pub count: usize,
     pub nodes: [u8; 16],
     pub rewards: [u64; 16],
 }
 
 // The roots of a file. The checks 12 and 26 have passed.
-pub fn roots_of(file: &[u8]) -> Roots
+pub fn roots_of(file: &[u8]) -> RootEntries
     requires { ⌜ (headingFault (now file) ≡ none) × (rootFault (now file) ≡ none) ⌝ }
     ensures count { λ r. ⌜ r .count ≡ length (tableOf (now (file .entry)) .roots) ⌝ }
     ensures nodes { λ r. ⌜ r .nodes ≡ padTo 16 (rootNodes (tableOf (now (file .entry)) .roots)) ⌝ }
@@ -45,7 +45,7 @@ pub fn roots_of(file: &[u8]) -> Roots
         rewards[i] = root.reward;
         i += 1;
     }
-    Roots {
+    RootEntries {
         count,
         nodes,
         rewards,

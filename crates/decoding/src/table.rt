@@ -9,10 +9,11 @@ ghost use mathlib.Core.Path.{_≡_};
 ghost use mathlib.Core.Option.{none};
 ghost use Prim.Native.Nat.{_≤_};
 ghost use Rattle.diagram.specs.Table as table;
-ghost use Rattle.diagram.specs.Table.{tableOf, choiceCount};
+ghost use Rattle.diagram.specs.Words.{wordAt};
+ghost use Rattle.diagram.specs.Table.{sequence, variableCount, tableOf, choiceCount};
 ghost use Rattle.diagram.specs.Checks.{rootFault};
 ghost use Rattle.decoding.specs.Nodes.{Shaped};
-ghost use Rattle.decoding.specs.Decoding.{tableIn, Held, emptyTable};
+ghost use Rattle.decoding.specs.Decoding.{padTo, tableIn, Held, emptyTable};
 
 // A table by value: V, N, the number of choices and B; by position the variables' words; by choice number its position and kits; by
 // node number its position and its two children, the ends first; the number of roots, and by root its node and reward. Cells that
@@ -39,6 +40,7 @@ pub fn decode(file: &[u8], scale: u64) -> Decoded
     requires scale { ⌜ scale ≡ table.scale (tableOf (now file)) ⌝ }
     ensures table { λ r. ⌜ tableIn r ≡ tableOf (now (file .entry)) ⌝ }
     ensures held { λ r. ⌜ Held r ⌝ }
+    ensures words { λ r. ⌜ r .words ≡ padTo 64 (sequence (wordAt (now (file .entry))) 1 (variableCount (now (file .entry)))) ⌝ }
 {
     let mut positions = [0u8; 256];
     let mut high = [0u8; 256];

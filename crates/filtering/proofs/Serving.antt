@@ -14,7 +14,7 @@ use Rattle.arrays.specs.Arrays.{over}
 use Rattle.arrays.proofs.Over.{over-sequence-at}
 use Rattle.requesting.specs.Request.{requestOutcome}
 use Rattle.requesting.proofs.Requests.{Proper, filter-refused, filter-answered}
-use Rattle.sweep.proofs.Serving.{kept, filled}
+use Rattle.requesting.proofs.Serving.{kept, filled}
 use Rattle.filtering.specs.Forced.{Swept}
 
 -- the top and the drops of a request that no check turns away

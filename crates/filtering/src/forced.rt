@@ -1,6 +1,6 @@
 // The lines that a percentage forces.
+use passing::passes;
 use terms::Plan;
-use terms::passes;
 ghost use mathlib.Core.Path.{_≡_};
 ghost use mathlib.Core.Bool.{not, _&&_};
 ghost use Prim.Native.Nat.{ℕ, _-_, _≤_};

@@ -3,13 +3,13 @@ mod answer;
 mod forced;
 
 pub use answer::FilterAnswer;
+use deriving::two_passes;
 use forced::force;
+use passing::least_passing;
+use passing::passes;
 use reading::ReadAnswer;
 use requesting::accept;
-use sweep::two_passes;
 use terms::Refusal;
-use terms::least_passing;
-use terms::passes;
 ghost use mathlib.Core.Path.{_≡_};
 ghost use lib.ListN.{length};
 ghost use Rattle.diagram.specs.Services.{filterOutcome, filterBuffer};

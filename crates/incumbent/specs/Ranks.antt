@@ -7,4 +7,4 @@ use Rattle.diagram.specs.Ranking.{takesFirst}
 
 -- A plan's score, room and marks rank before another's
 unfoldable pub ranksOver : (score room : ℕ) → List ℕ → (score room : ℕ) → List ℕ → Bool
-ranksOver x c p y d q = ltb y x || eqb x y && (ltb d c || eqb c d && takesFirst p q)
+ranksOver x r p y s q = ltb y x || eqb x y && (ltb s r || eqb r s && takesFirst p q)

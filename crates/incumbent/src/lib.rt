@@ -1,8 +1,8 @@
 // What a search holds, in three numbers: the cutoff, which is the least bound that is worth a visit, the room of the best plan held,
 // which is 0 where none is held, and the visits. A plan's room is the kits that it leaves and one more, and 0 where it costs more
 // than the budget. The marks of the best plan held stand beside them.
+use passing::passes;
 use terms::Plan;
-use terms::passes;
 ghost use mathlib.Core.Path.{_≡_};
 ghost use mathlib.Core.Bool.{not, _||_};
 ghost use Prim.Native.Nat.{_<_, _^_};

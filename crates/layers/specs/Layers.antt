@@ -54,7 +54,7 @@ unfoldable pub crossNodes : Layers → (i n : ℕ) → (cells : List ℕ) → Li
 crossNodes l i zero cells = cells
 crossNodes l i (suc n) cells = crossNode l (i + n) (crossNodes l i n cells)
 
--- The node at rank i, of a line taken, hands on what comes to it by its hi arc alone
+-- The node at rank i, of a line taken, hands on by its hi arc alone what comes to it
 unfoldable pub ownNode : Layers → (i : ℕ) → (cells : List ℕ) → List ℕ
 ownNode l i cells = put cells i (inflow l cells i) 0
 

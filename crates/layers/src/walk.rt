@@ -53,7 +53,7 @@ fn cross(
     }
 }
 
-// The nodes of an open line hand on what comes to them by their hi arcs. Answers what leaving the line loses.
+// The nodes of an open line hand on by their hi arcs what comes to them. Answers what leaving the line loses.
 fn enter(
     starts: &[u16; 256],
     sources: &[u16; 1040],

@@ -16,12 +16,12 @@ use Rattle.arrays.proofs.Over.{over-sequence-at}
 use Rattle.weighing.specs.declared.roots.Roots.{Roots}
 use Rattle.weighing.specs.Value.{nodePosition, gap, marksFrom, variableAt, markAt}
 use Rattle.weighing.proofs.HeldRoots.{RootsHeld}
-use Rattle.scoring.specs.Passes.{markOf, highInForceAt, lowInForceAt, recordLoss, lossesOf, Marked}
-use Rattle.scoring.specs.Valued.{nodeValues}
-use Rattle.scoring.proofs.Passing.{mark-at-node, high-is, low-is}
-use Rattle.scoring.proofs.Gaining.{loss-is}
-use Rattle.sweep.specs.Down.{rootWeight}
-use Rattle.sweep.proofs.RootWeights.{held-rooted}
+use Rattle.valuing.specs.Passes.{markOf, highInForceAt, lowInForceAt, recordLoss, lossesOf, Marked}
+use Rattle.valuing.specs.Valued.{nodeValues}
+use Rattle.valuing.proofs.Passing.{mark-at-node, high-is, low-is}
+use Rattle.valuing.proofs.Gaining.{loss-is}
+use Rattle.deriving.specs.Down.{rootWeight}
+use Rattle.deriving.proofs.RootWeights.{held-rooted}
 use Rattle.ordering.specs.Chains.{joined, inBuffer, nodesAt, arcsInto, arcsAt}
 use Rattle.layers.specs.Layers.{inflow}
 use Rattle.layout.specs.Weights.{into}

@@ -20,11 +20,11 @@ use Rattle.diagram.specs.Checks.{positionOf}
 use Rattle.diagram.proofs.Every.{both, and-true-both}
 use Rattle.diagram.proofs.FirstVariable.{score-le-scale}
 use Rattle.weighing.specs.Value.{nodePosition, marksFrom, valueFrom, value, variableAt, markAt, highShare, lowShare, highWeight, lowWeight, highArc, lowArc}
-use Rattle.scoring.specs.Passes.{markOf, highInForce, lowInForce}
-use Rattle.scoring.proofs.Gaining.{weights-taken, weights-left, weights-same, mark-number}
-use Rattle.sweep.specs.Drops.{isOf, valueLoss}
-use Rattle.sweep.proofs.Leaving.{openTaken-set, open-taken, within-plan, choices-later}
-use Rattle.sweep.proofs.Deriving.{is-false, open-within, open-zero}
+use Rattle.valuing.specs.Passes.{markOf, highInForce, lowInForce}
+use Rattle.valuing.proofs.Gaining.{weights-taken, weights-left, weights-same, mark-number}
+use Rattle.deriving.specs.Drops.{isOf, valueLoss}
+use Rattle.deriving.proofs.Leaving.{openTaken-set, open-taken, within-plan, choices-later}
+use Rattle.deriving.proofs.Deriving.{is-false, open-within, open-zero}
 use Rattle.layout.specs.Weights.{pathWeight, weightSum}
 use Rattle.layers.specs.Layers.{Layers, inflow, put, crossNode, crossNodes, ownNode, ownNodes, dropSum, leaveNode, leaveNodes, Enterable}
 use Rattle.layout.specs.Flows.{highAt, lowAt, Layered, rankSum, atSum, Line, Settles, Right, Same}

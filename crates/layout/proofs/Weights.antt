@@ -23,15 +23,15 @@ use Rattle.diagram.proofs.FirstVariable.{scale-positive}
 use Rattle.decoding.specs.Decoding.{rootAt}
 use Rattle.weighing.specs.Value.{nodePosition, value, rootedSum, highWeight, lowWeight}
 use Rattle.arrays.specs.Arrays.{byNode}
-use Rattle.scoring.specs.Passes.{Arcs}
+use Rattle.valuing.specs.Passes.{Arcs}
 use Rattle.weighing.proofs.Values.{shares-drop, weights-scale, value-false, value-true, value-step, score-rooted, scale-rooted}
-use Rattle.sweep.specs.Down.{dot, recordSum, added, rootWeights, rootWeight, handOn, passDown, Budget}
+use Rattle.deriving.specs.Down.{dot, recordSum, added, entered, rootWeight, handOn, passDown, Budget}
 use Rattle.decoding.specs.Decoding.{Rooted}
-use Rattle.sweep.specs.Drops.{valueLoss}
-use Rattle.sweep.proofs.Transposing.{added-length, hand-on-length, hand-on-other, stays, transposed, budget-next, budget-weight}
-use Rattle.sweep.proofs.Leaving.{left-step}
-use Rattle.sweep.proofs.RootWeights.{root-weights-length, all-dot, added-cell, root-weights-cell}
-use Rattle.sweep.proofs.Deriving.{zeros-bound}
+use Rattle.deriving.specs.Drops.{valueLoss}
+use Rattle.deriving.proofs.Transposing.{added-length, hand-on-length, hand-on-other, stays, transposed, budget-next, budget-weight}
+use Rattle.deriving.proofs.Leaving.{left-step}
+use Rattle.deriving.proofs.RootWeights.{root-weights-length, all-dot, added-cell, root-weights-cell}
+use Rattle.deriving.proofs.Deriving.{zeros-bound}
 use Rattle.layout.specs.Weights.{arcsUnder, pathWeight, into, weightSum}
 
 -- ---------------------------------------------------------------------------
@@ -117,7 +117,7 @@ pass-fits {a} (suc k) ws b size i h =
 module _ (t : Table) (formed : Formed (length (t .variables)) (t .records)) (shares : BoundedShares (t .variables)) (few : length (t .records) ≤ 254) (rooted : Rooted t) where
   -- the weights to begin with
   abbrev first : List ℕ
-  first = rootWeights t (length (t .roots)) (replicate 256 0)
+  first = entered t (length (t .roots)) (replicate 256 0)
 
   long : length first ≡ 256
   long = root-weights-length t (length (t .roots)) (replicate 256 0) ∙ length-replicate {A = ℕ} 256 0

@@ -10,8 +10,8 @@ use Rattle.diagram.specs.Plans.{openTaken, isOpen}
 use Rattle.diagram.specs.Visits.{lowestOpen}
 use Rattle.diagram.specs.Validity.{Formed, BoundedShares, Monotone}
 use Rattle.weighing.specs.Value.{nodePosition, value, variableAt, highWeight, lowWeight, highArc, lowArc}
-use Rattle.scoring.specs.Passes.{markOf, highInForce, lowInForce}
-use Rattle.sweep.specs.Down.{rootWeight}
+use Rattle.valuing.specs.Passes.{markOf, highInForce, lowInForce}
+use Rattle.deriving.specs.Down.{rootWeight}
 use Rattle.decoding.specs.Decoding.{Rooted}
 use Rattle.layout.specs.Weights.{pathWeight, into}
 use Rattle.layers.specs.Cells.{highCell, lowCell, rootCell}

@@ -7,7 +7,7 @@ use lib.Seq.{sets}
 use Rattle.diagram.specs.Table.{sequence}
 use Rattle.arrays.specs.Arrays.{over}
 use Rattle.weighing.specs.declared.roots.Roots.{Roots}
-use Rattle.scoring.specs.Passes.{arcsInForce}
+use Rattle.valuing.specs.Passes.{arcsInForce}
 use Rattle.layers.specs.Cells.{highCell, lowCell, rootCell}
 use Rattle.decoding.specs.declared.table.Decoded.{Decoded}
 use Rattle.ordering.specs.Numbers.{lowArcOf, rootArcs}
@@ -17,8 +17,8 @@ use Rattle.layers.specs.Layers.{Layers, layersOf}
 use Rattle.layout.specs.declared.weigh.LaidArcs.{LaidArcs}
 
 -- The arcs into the node at rank i of a decoded table
-abbrev pub arcsOf : Decoded → Roots → (order : List ℕ) → (i : ℕ) → List ℕ
-arcsOf d rs order = arcsAt (d .high) (d .low) (d .nodes) (d .records) (rs .count) order
+abbrev pub arcsAtRank : Decoded → Roots → (order : List ℕ) → (i : ℕ) → List ℕ
+arcsAtRank d rs order = arcsAt (d .high) (d .low) (d .nodes) (d .records) (rs .count) order
 
 -- What comes to the roots is written as the weights of their arcs
 abbrev pub broughtBy : Roots → (weights : List ℕ) → List ℕ
@@ -45,7 +45,7 @@ arcCells order (suc i) = nodeCells (arcCells order i) (getD order i 0) i
 abbrev pub picked : (cells list : List ℕ) → (count : ℕ) → List ℕ
 picked cells list count = over (sequence (λ j. getD cells (getD list j 0) 0) 0 count) (replicate 1040 0)
 
--- For each arc into n nodes the cell that it starts from and its weight, both by the arcs' numbers
+-- For each arc into n nodes, by index in their list, the cell that it starts from and its weight; `cells` and `weights` have both by the arcs' numbers
 pub record Picked (n : ℕ) (arcs : Joined) (cells weights : List ℕ) (r : LaidArcs) : Type 0 where
   pub starts : r .starts ≡ arcs .starts
   pub sources : r .sources ≡ picked cells (arcs .list) (getD (arcs .starts) n 0)
@@ -64,7 +64,7 @@ pub record Laid (lists : ℕ → List ℕ) (n : ℕ) (order weights : List ℕ) 
 -- The arcs of a decoded table under a plan's marks
 abbrev pub LaidTable : Decoded → Roots → (arcs marks order : List ℕ) → LaidArcs → Type 0
 LaidTable d rs ws ms order r =
-    Laid (arcsOf d rs order) (d .records) order (weightsKept (d .positions) ms ws (d .records) rs) r
+    Laid (arcsAtRank d rs order) (d .records) order (weightsKept (d .positions) ms ws (d .records) rs) r
 
 -- The layout as a visit has it
 abbrev pub layersIn : LaidArcs → Layers

@@ -8,8 +8,8 @@ use lib.Dec.{eqb}
 use Rattle.diagram.specs.Table.{Table, recordAt}
 use Rattle.weighing.specs.Value.{highWeight, lowWeight}
 use Rattle.arrays.specs.Arrays.{byNode}
-use Rattle.scoring.specs.Passes.{Arcs}
-use Rattle.sweep.specs.Down.{rootWeights, passDown}
+use Rattle.valuing.specs.Passes.{Arcs}
+use Rattle.deriving.specs.Down.{entered, passDown}
 
 -- The children of a table's records and the weights of their arcs under a full plan
 unfoldable pub arcsUnder : Table → (plan : List ℕ) → Arcs
@@ -25,7 +25,7 @@ arcsUnder t u =
 unfoldable pub pathWeight : Table → (plan : List ℕ) → (m : ℕ) → ℕ
 pathWeight t u m =
     getD
-    (passDown (arcsUnder t u) (length (t .records)) (rootWeights t (length (t .roots)) (replicate 256 0)))
+    (passDown (arcsUnder t u) (length (t .records)) (entered t (length (t .roots)) (replicate 256 0)))
     m
     0
 

@@ -5,15 +5,15 @@ use crate::weigh::pick_arcs;
 use crate::weigh::weigh_roots;
 use decoding::Decoded;
 use ordering::order_arcs;
-use scoring::in_force;
+use valuing::in_force;
 use weighing::Roots;
 ghost use Prim.Native.Nat.{ℕ, _≤_, _<_};
 ghost use lib.ListN.{length, getD};
 ghost use Rattle.ordering.specs.Chains.{joined};
-ghost use Rattle.layout.specs.Weighed.{arcsOf, NodesWithin, LaidTable};
+ghost use Rattle.layout.specs.Weighed.{arcsAtRank, NodesWithin, LaidTable};
 
 // Lays out the arcs into the nodes of the order: where each node's begin, and for each arc the cell that it starts from and its
-// weight, 0 where the marks close the arc. The search hands in an accepted table, with its nodes as `order_records` puts them in
+// weight, 0 where the marks close the arc. `arrange` hands in an accepted table, with its nodes as `order_records` puts them in
 // order.
 pub fn lay_arcs(
     table: Decoded,
@@ -24,7 +24,7 @@ pub fn lay_arcs(
 ) -> LaidArcs
     requires nodes { ⌜ (table .records ≤ 254) × (roots .count ≤ 16) × NodesWithin (table .records) (now order) ⌝ }
     requires positions { ⌜ ((k : ℕ) → getD (table .positions) k 0 < 64) ⌝ }
-    requires room { ⌜ length (joined (arcsOf table roots (now order)) (table .records)) ≤ 1040 ⌝ }
+    requires room { ⌜ length (joined (arcsAtRank table roots (now order)) (table .records)) ≤ 1040 ⌝ }
     ensures { λ r. ⌜ LaidTable table roots (now (arcs .entry)) (now (marks .entry)) (now (order .entry)) r ⌝ }
 {
     let listed = order_arcs(

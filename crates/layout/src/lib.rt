@@ -5,15 +5,15 @@ mod weigh;
 use decoding::Decoded;
 use lay::lay_arcs;
 use ordering::order_records;
-use scoring::losses;
-use scoring::value_plan;
+use valuing::losses;
+use valuing::value_plan;
 use weigh::losses_by_rank;
 ghost use mathlib.Core.Path.{_≡_};
 ghost use Prim.Native.Nat.{ℕ, _≤_};
 ghost use lib.ListN.{length, getD};
 ghost use Rattle.diagram.specs.Table.{choiceCount};
 ghost use Rattle.decoding.specs.Decoding.{tableIn, Sound};
-ghost use Rattle.layout.specs.Layout.{LaidOut};
+ghost use Rattle.layout.specs.Layout.{LaidOut, EveryCell};
 
 // What does not change during a search: the plan's bound; by position how many nodes stand before it; by rank where the arcs into
 // the node begin, and what leaving its line loses; by index in the list of arcs the cell that the arc starts from, and its weight.
@@ -31,7 +31,8 @@ pub struct Layout {
 pub fn arrange(table: Decoded, plan: &[u8]) -> Layout
     requires sound { ⌜ Sound table ⌝ }
     requires plan { ⌜ (length (now plan) ≡ choiceCount (tableIn table .variables)) × ((i : ℕ) → getD (now plan) i 0 ≤ 2) ⌝ }
-    ensures { λ r. ⌜ LaidOut (tableIn table) (now (plan .entry)) r ⌝ }
+    ensures laid { λ r. ⌜ LaidOut (tableIn table) (now (plan .entry)) r ⌝ }
+    ensures cells { λ r. ⌜ EveryCell table (now (plan .entry)) r ⌝ }
 {
     let mut arcs = [0u64; 544];
     let mut weights = [0u64; 544];

@@ -1,5 +1,5 @@
-// The open lines of a search in one array, by how many lines are unsettled when the line is the lowest of them. At that index stands
-// the rank where its layer begins, one cell before the rank where its own nodes end, and so many cells on what is named here.
+// The open lines of a search in one array. lines[n] is the rank where the layer of the lowest of n unsettled lines begins, lines[n - 1]
+// the rank where that line's own nodes end, and lines[n + OWN] and so on what is named here.
 
 // The rank where the line's own nodes begin.
 pub const OWN: usize = 21;

@@ -10,4 +10,4 @@ pub use open::open_lines;
 pub use read::layer_of;
 pub use read::line_kits;
 pub use read::mark_line;
-pub use write::line_ranks;
+pub use write::write_lines;

@@ -11,7 +11,7 @@ ghost use Rattle.lines.specs.Columns.{Listing, listingOf, Positioned, li
 
 // Writes the ranks, the numbers and the kits of open lines. The first layer begins at rank 0. `ends` has how many nodes stand before
 // each position. The lines are a plan's, and the positions a table's: `explore` hands them in.
-pub fn line_ranks(
+pub fn write_lines(
     count: usize,
     numbers: &[u8; 20],
     positions: &[u8; 20],

@@ -2,3 +2,4 @@
 pub mod FullPlans
 pub mod Checking
 pub mod Requests
+pub mod Serving

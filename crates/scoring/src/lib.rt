@@ -2,18 +2,9 @@
 // pass up the records.
 mod answer;
 mod bound;
-mod force;
-mod loss;
-mod pass;
 
 pub use answer::ScoreAnswer;
-pub use bound::PlanValue;
 use bound::upper_bound;
-pub use bound::value_plan;
-pub use force::in_force;
-pub use force::mark_at;
-pub use loss::loss_of;
-pub use loss::losses;
 use reading::ReadAnswer;
 use reading::read_table;
 use requesting::check_full_plan;

@@ -10,8 +10,8 @@ use Rattle.diagram.specs.Plans.{upperBound, passes, LeastPassing}
 use Rattle.diagram.specs.Checks.{isMonotoneAt}
 use Rattle.diagram.specs.Validity.{Formed, Monotone}
 use Rattle.weighing.specs.Value.{nodePosition, marksFrom, valueFrom, value, gap, variableAt, highArc, lowArc}
-use Rattle.scoring.specs.Passes.{markOf}
-use Rattle.sweep.specs.Down.{rootWeight}
+use Rattle.valuing.specs.Passes.{markOf}
+use Rattle.deriving.specs.Down.{rootWeight}
 use Rattle.layers.specs.Layers.{Layers}
 use Rattle.layout.specs.Flows.{highAt, lowAt, Layered, Line, atSum}
 use Rattle.search.specs.Searched.{priced}

@@ -24,9 +24,9 @@ use Rattle.decoding.proofs.Padding.{pad-at}
 use Rattle.decoding.proofs.Standing.{choice-position-in}
 use Rattle.rule.proofs.Visiting.{visited-rule}
 use Rattle.weighing.specs.Value.{marksFrom}
-use Rattle.scoring.specs.Passes.{markOf}
-use Rattle.scoring.proofs.Forcing.{choices-before}
-use Rattle.sweep.proofs.Leaving.{choices-later}
+use Rattle.valuing.specs.Passes.{markOf}
+use Rattle.valuing.proofs.Forcing.{choices-before}
+use Rattle.deriving.proofs.Leaving.{choices-later}
 use Rattle.layers.specs.Layers.{Layers}
 use Rattle.layout.specs.Flows.{Stand, Line}
 use Rattle.layout.specs.Layout.{Ending, Arranged}
@@ -210,7 +210,7 @@ module _ (t : Table) (s : List ℕ) (long : length s ≡ choiceCount (t .variabl
         }
 
   -- ---------------------------------------------------------------------------
-  -- The layers as `line_ranks` writes them
+  -- The layers as `write_lines` writes them
 
   module _ (count : ℕ) (numbers positions : List ℕ) (listed : numbers ≡ padTo 20 (openLines s)) (counted : count ≡ length (openLines s)) (chosen : (i : ℕ) → i < choiceCount (t .variables) → getD positions i 0 ≡ choicePosition (t .variables) i) where
     -- all open lines are listed
@@ -229,7 +229,7 @@ module _ (t : Table) (s : List ℕ) (long : length s ≡ choiceCount (t .variabl
         let few = opened-at i h .within in
         rw (number-at i h) (chosen (getD (openLines s) i 0) (omega (arith, few, long)))
 
-    -- what `line_ranks` asks for
+    -- what `write_lines` asks for
     pub numbers-few : choiceCount (t .variables) ≤ 20 → length (t .variables) < 64 → (i : ℕ) → i < count → (getD numbers i 0 < 20) × (getD positions (getD numbers i 0) 0 < 64)
     numbers-few few short i h =
         let at = opened-at i h in
@@ -313,15 +313,15 @@ firstScene kits t p order percent budget least =
     }
 
 -- the numbers that stand for nothing held and no visits
-pub nothing-held : (t : Table) (budget least : ℕ) (best W : List ℕ) {x y z : ℕ} {tally : List ℕ} → length W ≡ 3 → x ≡ least → y ≡ 0 → z ≡ 0 → tally ≡ set (set (set W 0 x) 1 y) 2 z → Holds t budget least none best tally × (length tally ≡ 3) × (getD tally 2 0 ≡ 0)
-nothing-held t budget least best W {x} {y} {z} three ex ey ez e =
+pub nothing-held : (t : Table) (budget least : ℕ) {best : List ℕ} (W : List ℕ) {x y z : ℕ} {tally : List ℕ} → best ≡ replicate 20 0 → length W ≡ 3 → x ≡ least → y ≡ 0 → z ≡ 0 → tally ≡ set (set (set W 0 x) 1 y) 2 z → Holds t budget least none best tally × (length tally ≡ 3) × (getD tally 2 0 ≡ 0)
+nothing-held t budget least W {x} {y} {z} zeros three ex ey ez e =
     let one : length (set W 0 x) ≡ 3 = simp length-set three in
     let two : length (set (set W 0 x) 1 y) ≡ 3 = simp length-set three in
     let at0 : getD (set (set (set W 0 x) 1 y) 2 z) 0 0 ≡ x = getD-set-other (set (set W 0 x) 1 y) 2 0 z 0 (omega arith) ∙ getD-set-other (set W 0 x) 1 0 y 0 (omega arith) ∙ getD-set-same W 0 x 0 (omega arith) in
     let at1 : getD (set (set (set W 0 x) 1 y) 2 z) 1 0 ≡ y = getD-set-other (set (set W 0 x) 1 y) 2 1 z 0 (omega arith) ∙ getD-set-same (set W 0 x) 1 y 0 (omega (arith, one)) in
     let at2 : getD (set (set (set W 0 x) 1 y) 2 z) 2 0 ≡ z = getD-set-same (set (set W 0 x) 1 y) 2 z 0 (omega (arith, two)) in
     rw e (
-      record { nothing = λ q. (at0 ∙ ex, at1 ∙ ey); something = λ q h. absurd (none-not-some h) },
+      record { nothing = λ q. (at0 ∙ ex, at1 ∙ ey, zeros); something = λ q h. absurd (none-not-some h) },
       simp length-set three,
       at2 ∙ ez,
     )
@@ -348,7 +348,7 @@ module _ {d : Decoded} {p : List ℕ} (sound : Sound d) (long : length p ≡ cho
   pub first-count : count ≤ 20
   first-count = omega (arith, room, lines-few p, long, sound .valid .choices)
 
-  -- what `line_ranks` asks for
+  -- what `write_lines` asks for
   pub first-few : (i : ℕ) → i < count → (getD numbers i 0 < 20) × (getD (d .«choice_positions») (getD numbers i 0) 0 < 64)
   first-few =
       numbers-few (tableIn d) p long count numbers (d .«choice_positions») lists room (choice-positions-own (sound .held)) (sound .valid .choices) (omega (arith, sound .valid .variables))

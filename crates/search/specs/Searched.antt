@@ -19,7 +19,7 @@ pub record Searched (t : Table) (percent budget least : ℕ) (p best tally : Lis
   pub holds : Holds t budget least (visits.visited t budget percent p .held) best tally
   pub counts : visitsCounted tally ≡ visits.visited t budget percent p .visits
 
--- What a search of a table from a plan leaves held and counted, within limits whose least score passes at some percentage
+-- What a search of a table from a plan leaves held and counted within limits, for every percentage at which their least score is the least that passes
 abbrev pub SearchedWithin : Table → (plan : List ℕ) → Limits → (best tally : List ℕ) → Type 0
 SearchedWithin t plan limits best tally =
     (percent : ℕ) → LeastPassing t percent (limits .least) →

@@ -1,4 +1,4 @@
-// The search of an accepted table from a legal plan: everything that does not change is made once, then the plan is visited.
+// The search of an accepted table from a legal plan: the open lines are listed, then the plan is visited. The layout is handed in.
 use cost::cost_of;
 use decoding::Decoded;
 use incumbent::CUTOFF;
@@ -6,13 +6,13 @@ use incumbent::ROOM;
 use incumbent::VISITS;
 use layers::ROOT_CELL;
 use layout::Layout;
-use lines::line_ranks;
 use lines::open_lines;
+use lines::write_lines;
 use terms::Plan;
 use visiting::visit;
 ghost use mathlib.Core.Path.{_≡_};
 ghost use Prim.Native.Nat.{ℕ, _+_, _-_, _≤_};
-ghost use lib.ListN.{length, getD};
+ghost use lib.ListN.{length, getD, replicate};
 ghost use Rattle.diagram.specs.Table.{choiceCount};
 ghost use Rattle.diagram.specs.Plans.{LeastPassing};
 ghost use Rattle.decoding.specs.Decoding.{tableIn, Sound};
@@ -39,7 +39,7 @@ pub fn explore(
     requires sound { ⌜ Sound table ⌝ }
     requires plan { ⌜ (length (now plan) ≡ choiceCount (tableIn table .variables)) × ((i : ℕ) → getD (now plan) i 0 ≤ 2) ⌝ }
     requires least { ⌜ (limits .budget ≤ 10020) × ((percent : ℕ) × LeastPassing (tableIn table) percent (limits .least)) ⌝ }
-    requires sizes { ⌜ (length (now best) ≡ 20) × (length (now tally) ≡ 3) ⌝ }
+    requires best { ⌜ (now best ≡ replicate 20 0) × (length (now tally) ≡ 3) ⌝ }
     requires layout { ⌜ LaidOut (tableIn table) (now plan) layout ⌝ }
     ensures { λ _. ⌜ SearchedWithin (tableIn table) (now (plan .entry)) limits (now (best .exit)) (now (tally .exit)) ⌝ }
 {
@@ -48,7 +48,7 @@ pub fn explore(
     let numbers = open.numbers;
     let kits = limits.kits;
     let mut lines = [0u16; 84];
-    line_ranks(
+    write_lines(
         open.count,
         &numbers,
         &table.choice_positions,

@@ -1,7 +1,2 @@
--- The laws of the pass down and of the drops.
+-- The laws of what a service answers.
 pub mod Serving
-pub mod Transposing
-pub mod RootWeights
-pub mod Summing
-pub mod Leaving
-pub mod Deriving

@@ -1,34 +1,18 @@
--- What `sweep` answers and what it leaves in its buffer, from what its callees answer; and what any service does.
+-- What `sweep` answers and what it leaves in its buffer, from what its callees answer.
 -- Assumes nothing.
 use Prim.Native.Nat.{ℕ}
-use mathlib.Core.Path.{_≡_, refl, sym, _∙_}
+use mathlib.Core.Path.{_≡_, sym, _∙_}
 use mathlib.Core.List.{List}
 use lib.ListN.{length, take, replicate}
 use lib.Seq.{take-at}
 use Rattle.diagram.specs.Table.{tableOf}
 use Rattle.diagram.specs.Plans.{upperBound, derivative, derivatives}
-use Rattle.diagram.specs.Services.{Outcome, refused, answered, written, Reading, sweepOutcome, sweepBuffer}
+use Rattle.diagram.specs.Services.{refused, answered, Reading, sweepOutcome, sweepBuffer}
 use Rattle.diagram.proofs.Places.{sequence-length}
 use Rattle.arrays.specs.Arrays.{over}
 use Rattle.requesting.specs.Request.{requestOutcome}
+use Rattle.requesting.proofs.Serving.{kept, filled}
 use Rattle.requesting.proofs.Requests.{proper, sweep-refused, sweep-answered}
-
--- ---------------------------------------------------------------------------
--- Any service
-
-module _ {A : Type 0} (part : A → List ℕ) (held : List ℕ) {o : Outcome A} where
-  -- a refused request leaves the buffer as it was
-  pub kept : (n i : ℕ) → o ≡ refused n i → (refused n i ≡ o) × (held ≡ written part o held)
-  unfolding written
-  kept n i e = (sym e, rw e refl)
-
-  -- an answered one writes its part
-  pub filled : (a : A) → o ≡ answered a → (answered a ≡ o) × (part a ≡ written part o held)
-  unfolding written
-  filled a e = (sym e, rw e refl)
-
--- ---------------------------------------------------------------------------
--- The sweep
 
 -- the first numbers of what is written over the front of an array
 front : (new old : List ℕ) (n : ℕ) → length new ≡ n → take n (over new old) ≡ new

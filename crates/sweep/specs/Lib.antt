@@ -1,4 +1,2 @@
--- The pass down, the drops, and what the enum of this crate stands for.
-pub mod Down
-pub mod Drops
+-- What the enum of this crate stands for.
 pub mod Answer

@@ -1,14 +1,10 @@
-// The sweep, one pass up and one pass down the records.
+// The sweep: the top of a plan, and the drop of each choice.
 mod answer;
-mod down;
-mod drops;
-mod two_pass;
 
 pub use answer::SweepAnswer;
+use deriving::two_passes;
 use reading::ReadAnswer;
 use requesting::accept;
-pub use two_pass::Sweep;
-pub use two_pass::two_passes;
 ghost use mathlib.Core.Path.{_≡_};
 ghost use Prim.Native.Nat.{_≤_};
 ghost use lib.ListN.{length, take};

@@ -1,7 +1,6 @@
-// The words of a table file, its limits, the three numberings of a diagram, plans, which scores pass, and refusals, in code.
+// The words of a table file, its limits, the three numberings of a diagram, plans and refusals, in code.
 mod limits;
 mod numbering;
-mod passing;
 mod plan;
 mod refusal;
 mod word;
@@ -19,8 +18,6 @@ pub use limits::MOST_VARIABLES;
 pub use numbering::Choice;
 pub use numbering::Node;
 pub use numbering::Position;
-pub use passing::least_passing;
-pub use passing::passes;
 pub use plan::Plan;
 pub use refusal::Refusal;
 pub use word::field_p;

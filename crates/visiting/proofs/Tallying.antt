@@ -142,7 +142,7 @@ counted-holds {t} {budget} {least} {held} {best} {tally} {tally′} holds size e
     let worth : getD tally′ 0 0 ≡ getD tally 0 0 = rw e (getD-set-other tally 2 0 _ 0 (omega arith)) in
     let room : getD tally′ 1 0 ≡ getD tally 1 0 = rw e (getD-set-other tally 2 1 _ 0 (omega arith)) in
     record {
-      nothing = λ n. (worth ∙ holds .nothing n .0, room ∙ holds .nothing n .1);
+      nothing = λ n. (worth ∙ holds .nothing n .0, room ∙ holds .nothing n .1, holds .nothing n .2);
       something = λ q s.
           let h = holds .something q s in
           record {

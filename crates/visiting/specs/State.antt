@@ -28,8 +28,7 @@ padded p = p ++ replicate (20 - length p) 0
 -- ---------------------------------------------------------------------------
 -- What is held
 
--- What the best plan held has to do with the numbers held: where none is held, the least bound that is worth a visit is the least score that passes, and the
--- room is 0; where one is held, they are its score and its room, it is within the budget, and its score passes
+-- Plan q is held: the least bound that is worth a visit is its score, the room is its own, it is within the budget, and its score passes
 pub record Holding (t : Table) (budget least : ℕ) (q best tally : List ℕ) : Type 0 where
   pub size : length q ≡ choiceCount (t .variables)
   pub plan : best ≡ padded q
@@ -38,8 +37,10 @@ pub record Holding (t : Table) (budget least : ℕ) (q best tally : List ℕ) : 
   pub within : cost t q ≤ budget
   pub passes : least ≤ scores.score t q
 
+-- What the best plan held has to do with the numbers held. Where none is held, the least bound that is worth a visit is the least score that passes, the
+-- room is 0, and the plan's marks are all 0.
 pub record Holds (t : Table) (budget least : ℕ) (held : Option (List ℕ)) (best tally : List ℕ) : Type 0 where
-  pub nothing : held ≡ none → (cutoff tally ≡ least) × (roomHeld tally ≡ 0)
+  pub nothing : held ≡ none → (cutoff tally ≡ least) × (roomHeld tally ≡ 0) × (best ≡ replicate 20 0)
   pub something : (q : List ℕ) → held ≡ some q → Holding t budget least q best tally
 
 -- ---------------------------------------------------------------------------

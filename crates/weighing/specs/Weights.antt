@@ -16,7 +16,7 @@ use Rattle.weighing.specs.Value.{nodePosition, gap, highShare, lowShare,
 unfoldable pub products : List Variable → List ℕ
 products vs = sequence (λ x. scaleOf (drop x vs)) 0 64
 
--- A share of each position's variable; the default counts past the last variable
+-- A share of each position's variable; past the last variable that of a chance of 0 of 1, which is 0 for the hi arc and 1 for the lo arc
 unfoldable pub sharesBy : (Variable → ℕ) → List Variable → List ℕ
 sharesBy share vs = sequence (λ x. share (getD vs x (chance 0 1))) 0 64
 

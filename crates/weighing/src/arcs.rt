@@ -29,13 +29,13 @@ pub fn products(words: &[u32; 64], v: u8) -> [u64; 64]
         p -= 1;
         let w = words[p as usize];
         let after = products[p as usize + 1];
-        products[p as usize] = after * share_sum(w);
+        products[p as usize] = after * scale_of(w);
     }
     products
 }
 
 // b of a variable, and 1 where it is a choice.
-fn share_sum(w: u32) -> u64
+fn scale_of(w: u32) -> u64
     ensures { λ r. ⌜ r ≡ scaleOf (variableOf w ∷ []) ⌝ }
 {
     if kind(w) == 2 { 1 } else { field_r(w) as u64 }

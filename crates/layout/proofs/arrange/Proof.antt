@@ -1,16 +1,16 @@
 -- `arrange` meets its contract: the arrays hold the table and the plan, and what is laid out is the table, in order. Assumes nothing.
 use Prim.Native.Nat.{ℕ, _≤_, _<_}
 use native.Mathlib.Omega.{arith}
-use mathlib.Core.Path.{_≡_, refl, ap, sym}
+use mathlib.Core.Path.{_≡_, refl, ap, sym, _∙_}
 use lib.ListN.{length, getD}
 use Rattle.diagram.specs.Table.{Root}
 use Rattle.decoding.specs.Decoding.{tableIn, rootAt}
 use Rattle.decoding.proofs.Standing.{variables-in, roots-in, root-in}
 use Rattle.weighing.proofs.HeldRoots.{RootsHeld, roots-held, records-few}
-use Rattle.scoring.specs.Passes.{Marked}
-use Rattle.scoring.proofs.Bounding.{marked}
-use Rattle.scoring.proofs.Passing.{position-within}
-use Rattle.scoring.proofs.Gaining.{losses-fit}
+use Rattle.valuing.specs.Passes.{Marked}
+use Rattle.valuing.proofs.Bounding.{marked}
+use Rattle.valuing.proofs.Passing.{position-within}
+use Rattle.valuing.proofs.Gaining.{losses-fit}
 use Rattle.layout.specs.Layout.{nodesInOrder}
 use Rattle.layout.proofs.Arranging.{nodes-within, room-for-arcs, layered}
 use Rattle.layout.proofs.Ordered.{order-is, ending}
@@ -89,14 +89,25 @@ returns c =
     let valued = at .value-plan .ensures in
     let m = holds at in
     let nodes = c .before .before .before .before .before .before .before .before .before .before .before .before .before .before .before .before .before .before .order-records in
-    record {
-      order = _;
-      arranged = record {
-        bounded = valued .bound;
-        layered = layered m (valid .monotone) (few start .0) (roots-are at) (ordered (c .before .before .before .before .before .before .before .before .before .before .before .before .before .before .before .before .before .before)) (valued .values) (d .nodes) (root-node at) (c .before .before .before .before .before .before .before .before .before .before .before .before .before .lay-arcs .ensures) (c .before .before .before .before .before .before .before .before .losses .ensures) (c .before .before .before .before .losses-by-rank .ensures);
-        ending = ending m (variables start) (nodes .ensures .list) (valid .variables .0) (nodes .ensures .starts);
-      };
-    }
+    let order = ordered (c .before .before .before .before .before .before .before .before .before .before .before .before .before .before .before .before .before .before) in
+    let laid = c .before .before .before .before .before .before .before .before .before .before .before .before .before .lay-arcs .ensures in
+    let lost = c .before .before .before .before .before .before .before .before .losses .ensures in
+    let by-rank = c .before .before .before .before .losses-by-rank .ensures in (
+      record {
+        order = _;
+        arranged = record {
+          bounded = valued .bound;
+          layered = layered m (valid .monotone) (few start .0) (roots-are at) order (valued .values) (d .nodes) (root-node at) laid lost by-rank;
+          ending = ending m (variables start) (nodes .ensures .list) (valid .variables .0) (nodes .ensures .starts);
+        };
+      },
+      record {
+        bound = valued .bound;
+        ends = nodes .ensures .starts;
+        laid = rw (valued .roots, valued .arcs, valued .marks, order) at laid;
+        losses = by-rank ∙ rw (lost, valued .arcs, valued .values, order) refl;
+      },
+    )
 
 pub arrange-spec : {M : Type 1} → statement M
 arrange-spec =

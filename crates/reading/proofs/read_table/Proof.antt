@@ -41,7 +41,7 @@ decode-requires c κs =
     ((record { heading = shown .heading; records = shown .records }, shown .roots, choices-within s (shown .heading) (shown .choices)), ap (λ (a : Reading). a .scale) (shape-reading s _ (shape c)))
 
 monotone-fault-requires : tie.Need-monotone-fault-requires
-monotone-fault-requires c κs = shown-checkable _ _ (c .decode .ensures .0) (c .decode .ensures .1) (shape-shown _ _ (shape (c .before)))
+monotone-fault-requires c κs = shown-checkable _ _ (c .decode .ensures .0) (c .decode .ensures .1 .0) (shape-shown _ _ (shape (c .before)))
 
 enum-known-place : tie.Need-enum-known-place
 enum-known-place c = search needs
@@ -64,7 +64,7 @@ returns-3 c =
     let decoded = c .before .before .before .decode .ensures in
     let found = rw (decoded .0, fault-of-table s) at (c .before .before .monotone-fault .ensures) in
     let read = past-18 s _ (shape (c .before .before .before .before)) (fault-none _ found (c .enum-told .given .1)) in
-    reads-accepted s _ (decoded .0) (record { held = decoded .1; valid = rw (decoded .0) (passed-valid (read-passed s _ (sym read))) }) _ read
+    reads-accepted s _ (decoded .0) (record { held = decoded .1 .0; valid = rw (decoded .0) (passed-valid (read-passed s _ (sym read))) }) _ read
 
 pub read-table-spec : {M : Type 1} → statement M
 read-table-spec =

@@ -85,7 +85,7 @@ explore-requires c κs =
     let told = c .before .before .before .before .before .before in
     let ok = request-proper told in
     let table = c .before .before .before .before .before .before .before .before .before .accept .ensures .accepted _ (c .before .before .before .before .before .before .before .answer .given .1) in
-    (table .1, ((rw (table .0) (ok .long), ok .legal), ((ok .budgets, (c .before .before .before .before .before .before .before .before .before .before .before .before .before .args .percent, rw (table .0) (least (c .before .before .before)))), ((refl, refl), c .before .before .arrange .ensures))))
+    (table .1, ((rw (table .0) (ok .long), ok .legal), ((ok .budgets, (c .before .before .before .before .before .before .before .before .before .before .before .before .before .args .percent, rw (table .0) (least (c .before .before .before)))), ((refl, refl), c .before .before .arrange .ensures .0))))
 
 array-read-if1 : tie.Need-array-read-if1
 array-read-if1 c = search needs

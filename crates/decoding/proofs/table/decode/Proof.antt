@@ -73,7 +73,7 @@ parts c =
 returns : tie.Need-returns
 returns c =
     let few = heading-records _ (c .before .before .before .before .before .before .before .before .before .before .before .before .before .before .pre .0 .0 .heading) .1 in
-    (stands (parts c) few, holds (parts c) few)
+    (stands (parts c) few, (holds (parts c) few, parts c .words))
 
 pub decode-spec : {M : Type 1} → statement M
 decode-spec =

@@ -27,8 +27,8 @@ ready c =
       counted = c .open-lines .ensures .1;
     }
 
-line-ranks-requires : tie.Need-line-ranks-requires
-line-ranks-requires c κs =
+write-lines-requires : tie.Need-write-lines-requires
+write-lines-requires c κs =
     let start = c .before .before .before .before .before .before .before .before .before .before .before .before in
     let r = ready (c .before .before .before .before .before .before .before .before .before) in
     (first-count (start .pre .0) (start .pre .1 .0 .0) r, refl, first-few (start .pre .0) (start .pre .1 .0 .0) r)
@@ -63,10 +63,10 @@ visit-requires c κs =
     let limits = start .args .limits in
     let r = ready (c .before .before .before .before .before .before .before .before .before .before .before .before .before .before .before .before .before .before .before .before .before .before .before .before .before) in
     let sizes = start .pre .1 .1 .1 .0 in
-    let held = nothing-held (priced _ (tableIn (start .args .t1))) (limits .budget) (limits .least) (start .args .best .now) (start .args .tally .now) (sizes .1) refl refl refl refl in
+    let held = nothing-held (priced _ (tableIn (start .args .t1))) (limits .budget) (limits .least) (start .args .tally .now) (sizes .0) (sizes .1) refl refl refl refl in
     let passing = start .pre .1 .1 .0 .1 in
-    let visitable = first-visitable sound (start .pre .1 .0 .0) r (limits .kits) (start .pre .1 .1 .1 .1 .arranged) (c .before .before .before .before .before .before .before .before .before .before .before .before .before .before .before .line-ranks .ensures) refl refl (c .before .before .before .before .before .before .before .before .before .before .room-of .ensures ∙ rw (c .before .before .before .before .before .before .before .before .before .before .before .cost-of .ensures) refl) (passing .1) (held .0) in
-    ((refl, r .handed .2, sizes .0, held .1), ((firstScene _ _ _ _ (passing .0) _ _, visitable), first-room sound (start .pre .1 .0 .0) r (held .2)))
+    let visitable = first-visitable sound (start .pre .1 .0 .0) r (limits .kits) (start .pre .1 .1 .1 .1 .arranged) (c .before .before .before .before .before .before .before .before .before .before .before .before .before .before .before .write-lines .ensures) refl refl (c .before .before .before .before .before .before .before .before .before .before .room-of .ensures ∙ rw (c .before .before .before .before .before .before .before .before .before .before .before .cost-of .ensures) refl) (passing .1) (held .0) in
+    ((refl, r .handed .2, rw (sizes .0) refl, held .1), ((firstScene _ _ _ _ (passing .0) _ _, visitable), first-room sound (start .pre .1 .0 .0) r (held .2)))
 
 returns : tie.Need-returns
 returns c percent passing =
@@ -75,8 +75,8 @@ returns c percent passing =
     let limits = start .args .limits in
     let r = ready (c .before .before .before .before .before .before .before .before .before .before .before .before .before .before .before .before .before .before .before .before .before .before .before .before .before .before) in
     let sizes = start .pre .1 .1 .1 .0 in
-    let held = nothing-held (priced _ (tableIn (start .args .t1))) (limits .budget) (limits .least) (start .args .best .now) (start .args .tally .now) (sizes .1) refl refl refl refl in
-    let visitable = first-visitable sound (start .pre .1 .0 .0) r (limits .kits) (start .pre .1 .1 .1 .1 .arranged) (c .before .before .before .before .before .before .before .before .before .before .before .before .before .before .before .before .line-ranks .ensures) refl refl (c .before .before .before .before .before .before .before .before .before .before .before .room-of .ensures ∙ rw (c .before .before .before .before .before .before .before .before .before .before .before .before .cost-of .ensures) refl) passing (held .0) in
+    let held = nothing-held (priced _ (tableIn (start .args .t1))) (limits .budget) (limits .least) (start .args .tally .now) (sizes .0) (sizes .1) refl refl refl refl in
+    let visitable = first-visitable sound (start .pre .1 .0 .0) r (limits .kits) (start .pre .1 .1 .1 .1 .arranged) (c .before .before .before .before .before .before .before .before .before .before .before .before .before .before .before .before .write-lines .ensures) refl refl (c .before .before .before .before .before .before .before .before .before .before .before .room-of .ensures ∙ rw (c .before .before .before .before .before .before .before .before .before .before .before .before .cost-of .ensures) refl) passing (held .0) in
     first-explored (sound .valid) _ (held .2) (c .visit .ensures _ visitable)
 
 pub explore-spec : {M : Type 1} → statement M
@@ -85,7 +85,7 @@ explore-spec =
     (tie.spec
     of-marks-requires
     open-lines-requires
-    line-ranks-requires
+    write-lines-requires
     array-write-cells
     element-write-tally
     element-write-tally-2

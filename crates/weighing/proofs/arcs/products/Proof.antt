@@ -18,11 +18,11 @@ abbrev μ-loop : tie.MeasureT-loop
 μ-loop words v products₀ p₀ products p = p
 
 -- what the turn writes
-product-read : (c : tie.After-share-sum Inv-loop μ-loop) → getD (c .before .before .before .loop .products) (c .before .before .before .loop .p - 1 + 1) 0 * c .share-sum .result ≡ suffix (variablesIn (c .before .before .before .before .args .words .now) (c .before .before .before .before .args .v)) (c .before .before .before .loop .p - 1)
+product-read : (c : tie.After-scale-of Inv-loop μ-loop) → getD (c .before .before .before .loop .products) (c .before .before .before .loop .p - 1 + 1) 0 * c .scale-of .result ≡ suffix (variablesIn (c .before .before .before .before .args .words .now) (c .before .before .before .before .args .v)) (c .before .before .before .loop .p - 1)
 product-read c =
     let a = c .before .before .before .before .args in
     let p = c .before .before .before .loop .p in
-    suffix-down (a .words .now) (a .v) (p - 1) (omega (arith, c .before .before .before .loop .inv .0)) (c .before .before .before .loop .inv .2 .at (p - 1 + 1) (omega arith) (omega arith)) (c .share-sum .ensures)
+    suffix-down (a .words .now) (a .v) (p - 1) (omega (arith, c .before .before .before .loop .inv .0)) (c .before .before .before .loop .inv .2 .at (p - 1 + 1) (omega arith) (omega arith)) (c .scale-of .ensures)
 
 loop-holds : tie.Need-loop-holds Inv-loop μ-loop
 loop-holds c =
@@ -54,8 +54,8 @@ mul-after c = search needs
 array-read-after : tie.Need-array-read-after Inv-loop μ-loop
 array-read-after c = search needs
 
-share-sum-requires : tie.Need-share-sum-requires Inv-loop μ-loop
-share-sum-requires c κs = search needs
+scale-of-requires : tie.Need-scale-of-requires Inv-loop μ-loop
+scale-of-requires c κs = search needs
 
 mul-products : tie.Need-mul-products Inv-loop μ-loop
 mul-products c = rw (product-read c) (omega (arith, suffix-fits (c .before .before .before .before .pre .1) (c .before .before .before .before .pre .2) (c .before .before .before .loop .p - 1)))
@@ -96,7 +96,7 @@ products-spec =
     add-after
     mul-after
     array-read-after
-    share-sum-requires
+    scale-of-requires
     mul-products
     cast-products
     mul-products-2

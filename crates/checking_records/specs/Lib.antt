@@ -1,0 +1,2 @@
+-- Check 17 by the positions in an array.
+pub mod Positioning

@@ -1,0 +1,3 @@
+-- The pass down and the drops.
+pub mod Down
+pub mod Drops

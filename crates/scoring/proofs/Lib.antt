@@ -1,6 +1,0 @@
--- Laws about the marks in force, the pass up, the sum over the roots, and what leaving a line loses.
-pub mod Forcing
-pub mod Passing
-pub mod Bounding
-pub mod RootSums
-pub mod Gaining
