@@ -59,8 +59,21 @@ pub fn processor_time() -> Duration {
     Duration::new(t.seconds as u64, t.nanoseconds as u32)
 }
 
+/// Calls `run` some frames of 256 bytes deeper in the stack.
+#[inline(never)]
+fn deeper(frames: usize, run: &mut dyn FnMut()) {
+    let frame = black_box([0u8; 256]);
+    if frames == 0 {
+        run();
+    } else {
+        deeper(frames - 1, run);
+    }
+    black_box(&frame);
+}
+
 /// Nanoseconds of `run` for each program that takes part: the least of several rounds, in each of which every program has
-/// its turn of so many calls.
+/// its turn of so many calls. The rounds are at 16 depths of the stack, since a time hangs on where in their pages the arrays
+/// of a call stand.
 fn times<const N: usize>(
     rounds: usize,
     calls: u32,
@@ -70,13 +83,15 @@ fn times<const N: usize>(
 ) -> [f64; N] {
     let mut least = [f64::INFINITY; N];
     let part: Vec<bool> = programs.iter().map(|&program| takes_part(program, file)).collect();
-    for _ in 0..rounds {
+    for round in 0..rounds {
         for (i, least) in least.iter_mut().enumerate().filter(|&(i, _)| part[i]) {
-            let start = processor_time();
-            for _ in 0..calls {
-                run(programs[i]);
-            }
-            *least = least.min((processor_time() - start).as_nanos() as f64 / calls as f64);
+            deeper(round % 16, &mut || {
+                let start = processor_time();
+                for _ in 0..calls {
+                    run(programs[i]);
+                }
+                *least = least.min((processor_time() - start).as_nanos() as f64 / calls as f64);
+            });
         }
     }
     least
@@ -156,7 +171,7 @@ fn line(job: &Job) {
     let mut drops = [0; 20];
     let sweeps: [f64; SWEEPERS.len()] =
         times(2000, 50, SWEEPERS, file, |p| assert!(sweep(p, black_box(file), &mut drops)));
-    let rounds = (4_000_000 / job.visits as usize).clamp(7, 1000);
+    let rounds = (4_000_000 / job.visits as usize).clamp(16, 1000);
     let calls = (1000 / job.visits as u32).max(1);
     let visit: [f64; PROGRAMS.len()] = times(rounds, calls, PROGRAMS, file, |p| {
         black_box(search(p, black_box(file), job.kits)).0.ok();
