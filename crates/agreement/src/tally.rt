@@ -3,7 +3,7 @@ use counter::Verdict;
 
 // For each service the requests tried, those whose answers agree, and those of these that are answered and not refused; for each
 // number the requests that both refuse with it; and how many differ, with the first of these by service and table.
-#[derive(Drop)]
+#[derive(Clone, Copy)]
 pub struct Tally {
     pub tried: [usize; 5],
     pub agreed: [usize; 5],

@@ -1,4 +1,5 @@
 // A request answered by the planner and by the counter, and what comes of it.
+#![tactic(auto)]
 use agreement::{Tally, same_marks, same_numbers};
 use counter::Verdict;
 use filtering::FilterAnswer;
@@ -10,7 +11,7 @@ use sweep::SweepAnswer;
 use terms::Refusal;
 
 // What comes with a file and a plan: the table's number, the size of the lent buffer, the kits and the percentage.
-#[derive(Drop)]
+#[derive(Clone, Copy)]
 pub struct Asked {
     pub table: usize,
     pub size: usize,

@@ -1,4 +1,5 @@
 // What the services answer, written to standard output for the program `cases`.
+#![tactic(auto)]
 use filtering::FilterAnswer;
 use opened::{Opening, State};
 use reading::ReadAnswer;

@@ -1,4 +1,5 @@
 // The services asked for a line of the program `cases`, each on the buffer that the line lends.
+#![tactic(auto)]
 ghost use Rattle.std.specs.Prelude.{◌≤◌};
 
 use case_answers::{

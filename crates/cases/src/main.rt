@@ -6,6 +6,7 @@
 // written back, then the answer, and then the lent buffer, in which every place is 7 to begin with; of a job what it prints.
 // A line without a colon is written back as it is. With an upper-case letter (R, S, W, F, P) the file is opened, and the
 // service asked of the opened table.
+#![tactic(auto)]
 use case_answers::show_text;
 use case_lines::Line;
 use case_runs::run;

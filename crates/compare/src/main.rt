@@ -3,6 +3,7 @@
 //
 // Every table comes from a seed, its number. What is printed is a line for each service and for each number of a refusal, and at
 // the end whether all agree.
+#![tactic(auto)]
 use agreement::Tally;
 use asked_twice::on_file;
 use made_damage::damaged;

@@ -1,6 +1,7 @@
 // What the program `plan` does: it reads a job word and a table from standard input, at most 1,329 bytes, and prints the plan
 // or the refusal. `plan` and the programs named after it are this function, each run on an input of its own. No contract can say
 // what is read and written; all that stands between is `printout::print_read`.
+#![tactic(auto)]
 pub fn run() {
     let mut input = [0u8; 1329];
     let n = io::read_full(libc::STDIN_FILENO, &mut input);

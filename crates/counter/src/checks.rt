@@ -11,7 +11,7 @@ const LIMIT: u64 = 72057594037927936;
 
 // What comes with a file and a plan. `least` is the least mark: 1 for the score, else 0. A service
 // without percent or kits hands in 0, and one without a buffer the plan's own length.
-#[derive(Drop)]
+#[derive(Clone, Copy)]
 pub struct Asked {
     pub least: u8,
     pub percent: u32,

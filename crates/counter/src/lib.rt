@@ -5,6 +5,7 @@
 //
 // Every function is proved safe and ending; none has a contract. A table that passes check 27 and
 // has more than 16 variables is answered by 99, which is no number of the planner.
+#![tactic(auto)]
 mod checks;
 
 use checks::{Asked, check, check_table};
@@ -16,7 +17,7 @@ use counter_scores::{decode, score_of, size};
 
 // What a service answers: the refusal's number and place, both 0 where the request is answered, and
 // the values, each 0 where there is none.
-#[derive(Drop)]
+#[derive(Clone, Copy)]
 pub struct Verdict {
     pub number: u64,
     pub place: u64,

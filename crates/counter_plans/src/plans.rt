@@ -4,7 +4,7 @@ use counter_scores::{
     add, choices, choices_below, has, only, passes, score_of, sub, variable, variables,
 };
 
-#[derive(Drop)]
+#[derive(Clone, Copy)]
 pub struct Marks {
     pub taken: u64,
     pub left: u64,
@@ -132,7 +132,7 @@ fn completes(full: u64, marks: Marks) -> bool {
 }
 
 // Of the passing completions tried: whether there is one, and the lines that one of them leaves.
-#[derive(Drop)]
+#[derive(Clone, Copy)]
 pub struct Seen {
     pub any: bool,
     pub left: u64,
@@ -163,7 +163,7 @@ pub fn forced_by(words: &[u64; 331], marks: Marks, seen: Seen) -> u64 {
 }
 
 // The full plan that ranks first of those tried, if there is one, and the visits made.
-#[derive(Drop)]
+#[derive(Clone, Copy)]
 pub struct Best {
     pub held: bool,
     pub score: u64,

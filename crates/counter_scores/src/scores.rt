@@ -28,7 +28,7 @@ fn child(words: &[u64; 331], node: u64, settling: u64) -> u64 {
 }
 
 // A settling as far as it is made: its positions, and how many choices and chances were passed.
-#[derive(Drop)]
+#[derive(Clone, Copy)]
 struct Made {
     positions: u64,
     choices: u64,

@@ -34,7 +34,7 @@ pub fn decode(file: &[u8]) -> [u64; 331] {
 }
 
 // A word by its kind and fields.
-#[derive(Drop)]
+#[derive(Clone, Copy)]
 pub struct Word {
     pub kind: u64,
     pub p: u64,
@@ -112,7 +112,7 @@ pub fn scale_below(words: &[u64; 331], n: u64) -> u64 {
 }
 
 // The reward of a root, and its node.
-#[derive(Drop)]
+#[derive(Clone, Copy)]
 pub struct Root {
     pub reward: u64,
     pub node: u64,

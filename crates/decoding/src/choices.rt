@@ -9,7 +9,7 @@ use crate::variables::is_choice;
 use terms::{Position, field_r, word_at};
 
 // How many choices there are, and by number the position and the kits of each; the cells after the last choice are 0.
-#[derive(Drop)]
+#[derive(Clone, Copy)]
 pub struct Choices {
     pub count: usize,
     pub positions: [u8; 20],

@@ -9,14 +9,14 @@ use crate::heading::{record_count, root_word_count, variable_count};
 use terms::{Node, field_q, field_r, word_at};
 
 // A root: the node that its walk starts at, and its reward.
-#[derive(Drop)]
+#[derive(Clone, Copy)]
 pub struct Root {
     pub node: Node,
     pub reward: u64,
 }
 
 // How many roots there are, and by number the node and the reward of each; the cells after the last root are 0.
-#[derive(Drop)]
+#[derive(Clone, Copy)]
 pub struct RootEntries {
     pub count: usize,
     pub nodes: [u8; 16],

@@ -17,7 +17,7 @@ use crate::variables::words_of;
 // A table by value: V, N, the number of choices and B; by position the variables' words; by choice number its position and kits; by
 // node number its position and its two children, the ends first; the number of roots, and by root its node and reward. Cells that
 // are not used are 0.
-#[derive(Drop)]
+#[derive(Clone, Copy)]
 pub struct Decoded {
     pub variables: u8,
     pub records: usize,

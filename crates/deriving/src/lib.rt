@@ -1,4 +1,5 @@
 // The top and the drops of a plan, by one pass up and one pass down the records.
+#![tactic(auto)]
 mod down;
 mod drops;
 mod two_pass;

@@ -11,7 +11,7 @@ use decoding::Decoded;
 use valuing::value_plan;
 
 // The top of a plan and the drops of its choices, by choice number; the cells after the last choice are 0.
-#[derive(Drop)]
+#[derive(Clone, Copy)]
 pub struct Sweep {
     pub bound: u64,
     pub drops: [u64; 20],

@@ -102,9 +102,12 @@ pub data Among (c : Check) : List Check → Type 0 where
   later : {b : Check} {cs : List Check} → Among c cs → Among c (b ∷ cs)
 
 -- each check of a list that answers has passed
+passed_one : (c : Check) {cs : List Check} (s : List ℕ) (r : Reading) → checked cs (λ file. answered (reading file)) s ≡ answered r → Among c cs → c.fault s ≡ none
+passed_one c s r e first = (first_passed _ _ s r e).0
+passed_one c s r e (later h) = passed_one c s r (first_passed _ _ s r e).1 h
+
 pub passed_among : {cs : List Check} (s : List ℕ) (r : Reading) → checked cs (λ file. answered (reading file)) s ≡ answered r → (number : ℕ) (fault : List ℕ → Option ℕ) → Among (record { number = number; fault = fault }) cs → fault s ≡ none
-passed_among s r e number fault first = (first_passed _ _ s r e).0
-passed_among s r e number fault (later h) = passed_among s r (first_passed _ _ s r e).1 number fault h
+passed_among s r e number fault h = passed_one (record { number = number; fault = fault }) s r e h
 
 pub read_passed : (s : List ℕ) (r : Reading) → read_outcome s ≡ answered r → Passed s
 unfolding read_outcome table_checks

@@ -2,7 +2,7 @@
 use terms::Refusal;
 
 // How many lines are forced, or why the request is turned away.
-#[derive(Drop)]
+#[derive(Clone, Copy)]
 pub enum FilterAnswer {
     Forced(usize),
     Refused(Refusal),

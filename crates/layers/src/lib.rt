@@ -1,5 +1,7 @@
 // A visit's walk over a layer. While a line is the lowest open one, the values of the nodes from its position on do not change, and
 // only path weights do. So a visit hands path weights on from one open line to the next, over the nodes between the two.
+#![tactic(auto)]
+
 mod cells;
 mod ranks;
 mod walk;

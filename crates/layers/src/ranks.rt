@@ -2,11 +2,11 @@
 ghost use Rattle.std.specs.Prelude.{◌≡◌};
 
 // A rank.
-#[derive(Drop)]
+#[derive(Clone, Copy)]
 pub struct Rank(usize);
 
 // The ranks of an open line's layer: where the layer begins, where the line's own nodes begin, and where they end.
-#[derive(Drop)]
+#[derive(Clone, Copy)]
 pub struct Layer {
     pub first: Rank,
     pub own: Rank,

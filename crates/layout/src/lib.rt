@@ -1,4 +1,5 @@
 // A table laid out for a search from a plan, by value: made once, and searched as often as one likes.
+#![tactic(auto)]
 mod lay;
 mod weigh;
 
@@ -15,7 +16,7 @@ use weigh::losses_by_rank;
 
 // What does not change during a search: the plan's bound; by position how many nodes stand before it; by rank where the arcs into
 // the node begin, and what leaving its line loses; by index in the list of arcs the cell that the arc starts from, and its weight.
-#[derive(Drop)]
+#[derive(Clone, Copy)]
 pub struct Layout {
     pub bound: u64,
     pub ends: [u16; 256],

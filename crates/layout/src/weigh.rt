@@ -12,7 +12,7 @@ const ROOT_SOURCE: u16 = ROOT_CELL as u16;
 
 // The arcs of a table laid out: by rank where the arcs into the node begin, and by index in the list of arcs the cell that the arc
 // starts from, and its weight.
-#[derive(Drop)]
+#[derive(Clone, Copy)]
 pub struct LaidArcs {
     pub starts: [u16; 256],
     pub sources: [u16; 1040],

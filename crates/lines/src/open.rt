@@ -6,7 +6,7 @@ ghost use Rattle.lines.specs.Open.{rows, open_lines};
 use terms::Plan;
 
 // The numbers of the open lines, the lowest first.
-#[derive(Drop)]
+#[derive(Clone, Copy)]
 pub struct OpenLines {
     pub numbers: [u8; 20],
     pub count: usize,

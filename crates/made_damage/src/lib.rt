@@ -1,4 +1,5 @@
 // Damage to a table, for tests.
+#![tactic(auto)]
 mod damage;
 
 pub use damage::damaged;

@@ -6,7 +6,7 @@ use crate::draws::{counted, least, minus, over, plus, times};
 use crate::marks::Marks;
 
 // The four fields of a word.
-#[derive(Drop)]
+#[derive(Clone, Copy)]
 pub struct Word {
     pub kind: usize,
     pub p: usize,
@@ -91,7 +91,7 @@ impl Word {
 }
 
 // The bytes of a file, of which the first `size` count.
-#[derive(Drop)]
+#[derive(Clone, Copy)]
 pub struct File {
     pub bytes: [u8; 1344],
     pub size: usize,

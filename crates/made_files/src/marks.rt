@@ -4,7 +4,7 @@ ghost use Rattle.io.specs.Counts.{IsPrefixLen};
 use crate::draws::{draw, fork, least, once_in, plus};
 
 // The marks of a plan, of which the first `count` count.
-#[derive(Drop)]
+#[derive(Clone, Copy)]
 pub struct Marks {
     pub marks: [u8; 32],
     pub count: usize,

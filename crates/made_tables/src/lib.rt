@@ -1,4 +1,5 @@
 // Tables for tests, each decided by a seed: mixed ones, wide ones and ladders.
+#![tactic(auto)]
 mod ladders;
 mod records;
 mod tables;

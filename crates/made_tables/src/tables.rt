@@ -4,7 +4,7 @@ use made_files::{File, Word, draw, fork, larger, minus, once_in, over, plus, tim
 use made_words::{MIXED, with_roots, with_variables};
 
 // The two children of a record.
-#[derive(Drop)]
+#[derive(Clone, Copy)]
 pub struct Pair {
     pub hi: usize,
     pub lo: usize,

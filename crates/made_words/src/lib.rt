@@ -1,4 +1,5 @@
 // The variable words and the root words of a table for tests.
+#![tactic(auto)]
 mod roots;
 mod variables;
 

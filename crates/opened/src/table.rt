@@ -2,14 +2,14 @@
 use terms::Refusal;
 
 // Whether the bytes are accepted as a table, or why they are turned away.
-#[derive(Drop)]
+#[derive(Clone, Copy)]
 pub enum State {
     Accepted,
     Refused(Refusal),
 }
 
 // V, N, the number of choices and B, each 0 where the bytes are turned away.
-#[derive(Drop)]
+#[derive(Clone, Copy)]
 pub struct Opening {
     pub variables: usize,
     pub records: usize,
@@ -19,7 +19,7 @@ pub struct Opening {
 }
 
 // The bytes as they were handed in, with what opening finds in them.
-#[derive(Drop)]
+#[derive(Clone, Copy)]
 pub struct Table<'a> {
     pub bytes: &'a [u8],
     pub variables: usize,

@@ -1,4 +1,5 @@
 // The program `plan`, run on the longest input that is answered: 1,328 bytes, 16 root words among them (tests/make_limits.py).
+#![tactic(auto)]
 fn main() {
     console::run();
 }

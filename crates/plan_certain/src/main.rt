@@ -1,4 +1,5 @@
 // The program `plan`, run on a job that asks for 100 percent of a link made of certain events (tests/make_limits.py).
+#![tactic(auto)]
 fn main() {
     console::run();
 }

@@ -1,4 +1,5 @@
 // The program `plan`, run on a job of 1,000 kits, and a table of 60 variables and 254 records whose lines take 201 to 501 (tests/make_limits.py).
+#![tactic(auto)]
 fn main() {
     console::run();
 }

@@ -11,7 +11,7 @@ use terms::{Plan, field_p, field_q, field_r, kind, word_at};
 use text::{Numbers, put_plan, put_refusal};
 
 // The text printed: the first `count` bytes, in ASCII. The rest is zeros.
-#[derive(Drop)]
+#[derive(Clone, Copy)]
 pub struct Text {
     pub bytes: [u8; 1024],
     pub count: usize,

@@ -3,7 +3,7 @@ use decoding::Decoded;
 use terms::Refusal;
 
 // V, N, the number of choices and B of a table.
-#[derive(Drop)]
+#[derive(Clone, Copy)]
 pub struct Summary {
     pub variables: usize,
     pub records: usize,
@@ -12,14 +12,14 @@ pub struct Summary {
 }
 
 // The table's numbers, or why the file is turned away.
-#[derive(Drop)]
+#[derive(Clone, Copy)]
 pub enum ReadAnswer {
     Table(Summary),
     Refused(Refusal),
 }
 
 // What reading answers, and the table decoded; it is the empty one where the file is turned away.
-#[derive(Drop)]
+#[derive(Clone, Copy)]
 pub struct TableAnswer {
     pub answer: ReadAnswer,
     pub table: Decoded,

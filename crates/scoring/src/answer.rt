@@ -2,7 +2,7 @@
 use terms::Refusal;
 
 // The score, or why the request is turned away.
-#[derive(Drop)]
+#[derive(Clone, Copy)]
 pub enum ScoreAnswer {
     Score(u64),
     Refused(Refusal),

@@ -2,14 +2,14 @@
 use terms::Refusal;
 
 // The score of the plan that is written, and the visits.
-#[derive(Drop)]
+#[derive(Clone, Copy)]
 pub struct Finding {
     pub score: u64,
     pub visits: u64,
 }
 
 // The first candidate's score and the visits, or why the request is turned away.
-#[derive(Drop)]
+#[derive(Clone, Copy)]
 pub enum SearchAnswer {
     Found(Finding),
     Refused(Refusal),

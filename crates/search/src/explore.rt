@@ -16,7 +16,7 @@ use terms::Plan;
 use visiting::visit;
 
 // What limits a search: the kits that each line takes, the kits that there are, and the least score that passes.
-#[derive(Drop)]
+#[derive(Clone, Copy)]
 pub struct Limits {
     pub kits: [u16; 20],
     pub budget: u32,

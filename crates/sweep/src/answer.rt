@@ -2,7 +2,7 @@
 use terms::Refusal;
 
 // The top of the plan, its upper bound, or why the request is turned away.
-#[derive(Drop)]
+#[derive(Clone, Copy)]
 pub enum SweepAnswer {
     Bound(u64),
     Refused(Refusal),

@@ -1,4 +1,5 @@
 // The sweep: the top of a plan, and the drop of each choice.
+#![tactic(auto)]
 mod answer;
 
 ghost use Rattle.std.specs.Prelude.{◌≡◌, ◌≤◌, length, take};

@@ -1,4 +1,6 @@
 // The words of a table file, its limits, the three numberings of a diagram, plans and refusals, in code.
+#![tactic(auto)]
+
 mod limits;
 mod numbering;
 mod plan;

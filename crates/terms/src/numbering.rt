@@ -2,15 +2,15 @@
 ghost use Rattle.std.specs.Prelude.{◌≡◌, ◌+◌, ◌<◌};
 
 // A choice number: the choices are numbered from 0 by position.
-#[derive(Drop)]
+#[derive(Clone, Copy)]
 pub struct Choice(u8);
 
 // A variable position, from 0. The two ends stand at the position after the last variable.
-#[derive(Drop)]
+#[derive(Clone, Copy)]
 pub struct Position(u8);
 
 // A node number: 0 and 1 are the ends false and true, and record k, from 0, is node k + 2.
-#[derive(Drop)]
+#[derive(Clone, Copy)]
 pub struct Node(u8);
 
 impl Choice {

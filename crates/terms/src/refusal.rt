@@ -1,5 +1,5 @@
 // Why a request is turned away: a number of the papers' refusals, and the place at fault.
-#[derive(Drop)]
+#[derive(Clone, Copy)]
 pub struct Refusal {
     pub number: u8,
     pub place: usize,

@@ -1,5 +1,6 @@
 // The lines of the printout. Each function writes from an index on and answers the index after what it has written; whoever
 // calls has the room that it asks for.
+#![tactic(auto)]
 ghost use Rattle.std.specs.Prelude.{◌+◌, ◌*◌, ◌≤◌, ◌<◌, length};
 ghost use Rattle.diagram.specs.Printout.{refusal_text, mark_lines};
 ghost use Rattle.writing.specs.Wrote.{Wrote};
@@ -9,7 +10,7 @@ use terms::Plan;
 use writing::{put_decimal, put_word};
 
 // The numbers of a plan's printout: how many choices there are and B, and the plan's cost, its score and the visits.
-#[derive(Drop)]
+#[derive(Clone, Copy)]
 pub struct Numbers {
     pub choices: usize,
     pub scale: u64,

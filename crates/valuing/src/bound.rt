@@ -12,7 +12,7 @@ use terms::Node;
 use weighing::{Roots, lay_out};
 
 // A plan's bound, its marks by position, and the roots of its table.
-#[derive(Drop)]
+#[derive(Clone, Copy)]
 pub struct PlanValue {
     pub bound: u64,
     pub marks: [u8; 64],

@@ -35,7 +35,7 @@ fn scale_of(w: u32) -> u64
 }
 
 // The shares of the hi arcs and of the lo arcs, by position.
-#[derive(Drop)]
+#[derive(Clone, Copy)]
 pub struct SharesByPosition {
     pub high: [u64; 64],
     pub low: [u64; 64],

@@ -7,7 +7,7 @@ use terms::{Node, Position};
 
 // The roots of a table: how many they are, and the node of each and what comes to it, its reward times the product of b before the
 // node; zeros after the last one.
-#[derive(Drop)]
+#[derive(Clone, Copy)]
 pub struct Roots {
     pub count: usize,
     pub nodes: [u8; 16],

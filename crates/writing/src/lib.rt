@@ -1,4 +1,5 @@
 // Text written into a buffer from an index on: words, and numbers in decimal.
+#![tactic(auto)]
 mod decimal;
 mod words;
 
