@@ -100,7 +100,12 @@ class Fn:
             self.place.setdefault(norm(p[0]), new)
         self.loops = {norm(l[0][0]): (l[0][1], l[1]) for l in it["loops"]}
         self.changed = {norm(l[0][0]): ch for l, ch in zip(it["loops"], it["changed"])}
-        self.new_steps = set(self.step.values())
+        self.clauses = {}
+        for p, c in zip(it["places"], it["clauses"]):
+            if c and c.get("fields"):
+                self.clauses[p[2][1]] = c["fields"]
+        pre = it.get("pre")
+        self.pre = pre.get("fields") if isinstance(pre, dict) else pre
 
     def paths(self, t):
         # aliases of a place
@@ -118,7 +123,16 @@ class Fn:
             return m[0]
         # the steps of all places before are fields of each
         t = re.sub(r"(?<=[\w'₀-₉])(?:\.before)+(?=\.(?!before(?![\w-])))", "", t)
-        return re.sub(r"(?<=[\w'₀-₉])\.([a-zA-Z_][\w-]*)", one, t)
+        t = re.sub(r"(?<=[\w'₀-₉])\.([a-zA-Z_][\w-]*)", one, t)
+
+        # a clause of several is a field of its name
+        def clause(m):
+            fields = self.clauses.get(m[1])
+            return f".{m[1]}.ensures.{fields[int(m[2])]}" if fields and int(m[2]) < len(fields) else m[0]
+        t = re.sub(r"\.([\w-]+)\.ensures\.(\d+)", clause, t)
+        if isinstance(self.pre, list) and len(self.pre) > 1:
+            t = re.sub(r"(?<=[\w'])\.requires\.(\d+)", lambda m: ".requires." + self.pre[int(m[1])] if int(m[1]) < len(self.pre) else m[0], t)
+        return t
 
     def types(self, t, ghost):
         def one(m):
@@ -290,22 +304,26 @@ def convert(crate, rel, it):
                 answers.append("-- LEFT " + m[1] + "\n" + "\n".join("-- " + l for l in (unf + d[2]).split("\n")))
                 continue
             goal = fn.goal[n]
-            clauses = fn.asked.get(goal)
+            clauses = fn.asked.get(goal) or (fn.asked.get("returns") if goal.startswith("returns") else None)
             cut = tuple_parts(value)
             if clauses and cut and len(cut[1]) == len(clauses):
                 value = value[:cut[0]] + "record { " + "; ".join(f"{k} = {v}" for k, v in zip(clauses, cut[1])) + " }"
             elif clauses:
                 left.append("clauses of " + goal)
             value = inlined(value, place_helpers)
+            if value.startswith("let "):
+                d2_lead = "\n    "
+            else:
+                d2_lead = None
             if goal in taken:
                 left.append("goal twice " + goal)
             taken.add(goal)
             ps = [p for p in d[1].split() if p != "κs"]
             params = " ".join((["g"] if ghost else []) + ps)
-            lead = "\n    " if d[2].startswith("\n") else " "
+            lead = d2_lead or ("\n    " if d[2].startswith("\n") else " ")
             answers.append("\n".join(comments + [f"pub {goal} : goal.{goal}"]) + "\n" + unf + f"{goal} {params} ={lead}" + value)
             continue
-        h = by_place(name, body, sig, fn)
+        h = by_place(name, body, sig, fn) if name else None
         if h and ghost:
             h = h[:2] + (ghosted(h[2], ghost), h[3], ghosted(h[4], ghost), ghosted(h[5], ghost))
         if h:

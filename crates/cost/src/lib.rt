@@ -1,5 +1,6 @@
 // What a plan costs.
 #![tactic(auto)]
+
 ghost use Rattle.std.specs.Prelude.{◌≡◌, ◌<◌, ◌≤◌, length};
 ghost use Rattle.diagram.specs.Plans.{cost_of};
 

@@ -1,5 +1,6 @@
 // The words of a table, and the score of a full plan, by every settling of the chances: a part of the second planner (`counter`).
 #![tactic(auto)]
+
 mod numbers;
 mod scores;
 mod table;

@@ -1,5 +1,6 @@
 // A table decoded from its file: every part in an array by its own numbering, so that nobody reads the bytes again.
 #![tactic(auto)]
+
 mod choices;
 mod heading;
 mod records;

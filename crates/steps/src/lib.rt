@@ -1,6 +1,7 @@
 // Checks as steps: what the checks before have found stands, and else the next check finds what it does. A list of checks is then
 // straight code, which can be cut and joined.
 #![tactic(auto)]
+
 mod verdict;
 
 ghost use Rattle.std.specs.Prelude.{◌≡◌};

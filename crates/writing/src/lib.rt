@@ -1,5 +1,6 @@
 // Text written into a buffer from an index on: words, and numbers in decimal.
 #![tactic(auto)]
+
 mod decimal;
 mod words;
 
