@@ -8,7 +8,7 @@ ghost use Rattle.diagram.specs.Services.{filter_outcome, filter_buffer};
 ghost use Rattle.filtering.specs.Answer.{filter_of};
 
 pub use answer::FilterAnswer;
-use deriving::two_passes;
+use derivatives::two_passes;
 use forced::force;
 use passing::{least_passing, passes};
 use reading::ReadAnswer;

@@ -20,8 +20,8 @@ use Rattle.valuing.specs.Passes.{mark_of, high_in_force_at, low_in_force_at, rec
 use Rattle.valuing.specs.Valued.{node_values}
 use Rattle.valuing.proofs.Passing.{mark-at-node, high_is, low-is}
 use Rattle.valuing.proofs.Gaining.{loss_is}
-use Rattle.deriving.specs.Down.{root_weight}
-use Rattle.deriving.proofs.RootWeights.{held-rooted}
+use Rattle.derivatives.specs.Down.{root_weight}
+use Rattle.derivatives.proofs.RootWeights.{held-rooted}
 use Rattle.ordering.specs.Chains.{joined, in_buffer, nodes_at, arcs_into, arcs_at}
 use Rattle.layers.specs.Layers.{inflow}
 use Rattle.layout.specs.Weights.{into}

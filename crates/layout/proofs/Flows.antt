@@ -22,9 +22,9 @@ use Rattle.diagram.proofs.FirstVariable.{score-le-scale}
 use Rattle.weighing.specs.Value.{node_position, marks_from, value_from, value, variable_at, mark_at, high_share, low_share, high_weight, low_weight, high_arc, low_arc}
 use Rattle.valuing.specs.Passes.{mark_of, high_in_force, low_in_force}
 use Rattle.valuing.proofs.Gaining.{weights-taken, weights-left, weights-same, mark-number}
-use Rattle.deriving.specs.Drops.{is_of, value_loss}
-use Rattle.deriving.proofs.Leaving.{open_taken-set, open_taken_lem, within-plan, choices-later}
-use Rattle.deriving.proofs.Deriving.{is_false, open_within, open_zero}
+use Rattle.derivatives.specs.Drops.{is_of, value_loss}
+use Rattle.derivatives.proofs.Leaving.{open_taken-set, open_taken_lem, within-plan, choices-later}
+use Rattle.derivatives.proofs.Deriving.{is_false, open_within, open_zero}
 use Rattle.layout.specs.Weights.{path_weight, weight_sum}
 use Rattle.layers.specs.Layers.{Layers, inflow, put, cross_node, cross_nodes, own_node, own_nodes, drop_sum, leave_node, leave_nodes, Enterable}
 use Rattle.layout.specs.Flows.{high_at, low_at, Layered, rank_sum, at_sum, Line, Settles, Right, Same}

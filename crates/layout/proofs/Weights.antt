@@ -25,13 +25,13 @@ use Rattle.weighing.specs.Value.{node_position, value, rooted_sum, high_weight, 
 use Rattle.arrays.specs.Arrays.{by_node}
 use Rattle.valuing.specs.Passes.{Arcs}
 use Rattle.weighing.proofs.Values.{shares-drop, weights-scale, value_false, value_true, value_step, score-rooted, scale-rooted}
-use Rattle.deriving.specs.Down.{dot, record_sum, added, entered, root_weight, hand_on, pass_down, Budget}
+use Rattle.derivatives.specs.Down.{dot, record_sum, added, entered, root_weight, hand_on, pass_down, Budget}
 use Rattle.decoding.specs.Decoding.{Rooted}
-use Rattle.deriving.specs.Drops.{value_loss}
-use Rattle.deriving.proofs.Transposing.{added-length, hand_on-length, hand_on_other, stays, transposed, budget-next, budget-weight}
-use Rattle.deriving.proofs.Leaving.{left_step}
-use Rattle.deriving.proofs.RootWeights.{root-weights-length, all-dot, added-cell, root-weights-cell}
-use Rattle.deriving.proofs.Deriving.{zeros-bound}
+use Rattle.derivatives.specs.Drops.{value_loss}
+use Rattle.derivatives.proofs.Transposing.{added-length, hand_on-length, hand_on_other, stays, transposed, budget-next, budget-weight}
+use Rattle.derivatives.proofs.Leaving.{left_step}
+use Rattle.derivatives.proofs.RootWeights.{root-weights-length, all-dot, added-cell, root-weights-cell}
+use Rattle.derivatives.proofs.Deriving.{zeros-bound}
 use Rattle.layout.specs.Weights.{arcs_under, path_weight, into, weight_sum}
 
 -- ---------------------------------------------------------------------------

@@ -6,7 +6,7 @@ use Rattle.diagram.specs.Visits.{lowest_open}
 use Rattle.diagram.specs.Validity.{Formed, BoundedShares, Monotone}
 use Rattle.weighing.specs.Value.{node_position, value, variable_at, high_weight, low_weight, high_arc, low_arc}
 use Rattle.valuing.specs.Passes.{mark_of, high_in_force, low_in_force}
-use Rattle.deriving.specs.Down.{root_weight}
+use Rattle.derivatives.specs.Down.{root_weight}
 use Rattle.decoding.specs.Decoding.{Rooted}
 use Rattle.layout.specs.Weights.{path_weight, into}
 use Rattle.layers.specs.Cells.{high_cell, low_cell, root_cell}

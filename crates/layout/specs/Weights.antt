@@ -5,7 +5,7 @@ use Rattle.diagram.specs.Table.{Table, record_at}
 use Rattle.weighing.specs.Value.{high_weight, low_weight}
 use Rattle.arrays.specs.Arrays.{by_node}
 use Rattle.valuing.specs.Passes.{Arcs}
-use Rattle.deriving.specs.Down.{entered, pass_down}
+use Rattle.derivatives.specs.Down.{entered, pass_down}
 
 -- The children of a table's records and the weights of their arcs under a full plan
 unfoldable pub arcs_under : Table → (plan : List ℕ) → Arcs

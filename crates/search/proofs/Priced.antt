@@ -11,7 +11,7 @@ use Rattle.diagram.specs.Checks.{is_monotone_at}
 use Rattle.diagram.specs.Validity.{Formed, Monotone}
 use Rattle.weighing.specs.Value.{node_position, marks_from, value_from, value, gap, variable_at, high_arc, low_arc}
 use Rattle.valuing.specs.Passes.{mark_of}
-use Rattle.deriving.specs.Down.{root_weight}
+use Rattle.derivatives.specs.Down.{root_weight}
 use Rattle.layers.specs.Layers.{Layers}
 use Rattle.layout.specs.Flows.{high_at, low_at, Layered, Line, at_sum}
 use Rattle.search.specs.Searched.{priced}

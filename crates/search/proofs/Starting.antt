@@ -26,7 +26,7 @@ use Rattle.rule.proofs.Visiting.{visited-rule}
 use Rattle.weighing.specs.Value.{marks_from}
 use Rattle.valuing.specs.Passes.{mark_of}
 use Rattle.valuing.proofs.Forcing.{choices-before}
-use Rattle.deriving.proofs.Leaving.{choices-later}
+use Rattle.derivatives.proofs.Leaving.{choices-later}
 use Rattle.layers.specs.Layers.{Layers}
 use Rattle.layout.specs.Flows.{Stand, Line}
 use Rattle.layout.specs.Layout.{Ending, Arranged}

@@ -7,7 +7,7 @@ ghost use Rattle.diagram.specs.Services.{sweep_outcome, sweep_buffer};
 ghost use Rattle.sweep.specs.Answer.{sweep_of};
 
 pub use answer::SweepAnswer;
-use deriving::two_passes;
+use derivatives::two_passes;
 use reading::ReadAnswer;
 use requesting::accept;
 

@@ -1,8 +1,8 @@
 -- `lose` meets its contract: the cell of the position is written, and no other. Assumes nothing.
 use borrow.Author.Rules.{rules}
-use Rattle.deriving.proofs.Summing.{added-read, added-fits}
-use Rattle.deriving.proofs.drops.lose.Statement.{statement}
-use Rattle.deriving.proofs.drops.lose.Tie as tie
+use Rattle.derivatives.proofs.Summing.{added-read, added-fits}
+use Rattle.derivatives.proofs.drops.lose.Statement.{statement}
+use Rattle.derivatives.proofs.drops.lose.Tie as tie
 
 number-requires : tie.Need-number-requires
 number-requires c κs = search rules

@@ -21,7 +21,7 @@ use Rattle.weighing.specs.Value.{node_position, marks_from, value_from, value, v
 use Rattle.weighing.proofs.Values.{value_step}
 use Rattle.valuing.specs.Passes.{record_loss}
 use Rattle.valuing.proofs.Gaining.{weights-taken, weights-same, mark-number, low-le-high, value_taken, value-left}
-use Rattle.deriving.specs.Drops.{is_of, value_loss}
+use Rattle.derivatives.specs.Drops.{is_of, value_loss}
 
 -- ---------------------------------------------------------------------------
 -- Plans

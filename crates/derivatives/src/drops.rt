@@ -3,7 +3,7 @@ ghost use Rattle.std.specs.Prelude.{◌≡◌, ℕ, ◌+◌, ◌≤◌, ◌<◌,
 ghost use Rattle.diagram.specs.Table.{sequence};
 ghost use Rattle.arrays.specs.Arrays.{over};
 ghost use Rattle.valuing.specs.Passes.{LossFits};
-ghost use Rattle.deriving.specs.Drops.{lossy_of, loss_sums, Losing};
+ghost use Rattle.derivatives.specs.Drops.{lossy_of, loss_sums, Losing};
 
 use decoding::{Decoded, position_of};
 use terms::{Node, Plan, Position};

@@ -1,8 +1,8 @@
 // The pass down the records: the path weight of every node.
 ghost use Rattle.std.specs.Prelude.{◌≡◌, ℕ, ◌+◌, ◌≤◌, ◌<◌, ◌^◌, length, get_or};
 ghost use Rattle.valuing.specs.Passes.{arcs_of};
-ghost use Rattle.deriving.specs.Down as down;
-ghost use Rattle.deriving.specs.Down.{added, entered_by, RootFits, hand_on, HandsOn, Budget};
+ghost use Rattle.derivatives.specs.Down as down;
+ghost use Rattle.derivatives.specs.Down.{added, entered_by, RootFits, hand_on, HandsOn, Budget};
 
 use decoding::child_of;
 use ordering::LOW_OFFSET;

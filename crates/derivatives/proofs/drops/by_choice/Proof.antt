@@ -12,8 +12,8 @@ use Rattle.diagram.specs.Table.{sequence}
 use Rattle.diagram.proofs.Places.{sequence-length, sequence-snoc}
 use Rattle.arrays.specs.Arrays.{over}
 use Rattle.arrays.proofs.Over.{over-next}
-use Rattle.deriving.proofs.drops.by_choice.Statement.{statement}
-use Rattle.deriving.proofs.drops.by_choice.Tie as tie
+use Rattle.derivatives.proofs.drops.by_choice.Statement.{statement}
+use Rattle.derivatives.proofs.drops.by_choice.Tie as tie
 
 -- the cell of choice i
 abbrev cell : (positions cells : List ℕ) → ℕ → ℕ

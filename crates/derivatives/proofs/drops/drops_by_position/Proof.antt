@@ -8,10 +8,10 @@ use mathlib.Core.List.{List}
 use lib.ListN.{get_or, replicate}
 use Rattle.arrays.proofs.Over.{over-at}
 use Rattle.valuing.specs.Passes.{loss_of, losses_of}
-use Rattle.deriving.specs.Drops.{lossy_of}
-use Rattle.deriving.proofs.Summing.{Summed, summed_start, position-within, loss_fits, cell-fits, summed_open, summed_shut, summed_end}
-use Rattle.deriving.proofs.drops.drops_by_position.Statement.{statement}
-use Rattle.deriving.proofs.drops.drops_by_position.Tie as tie
+use Rattle.derivatives.specs.Drops.{lossy_of}
+use Rattle.derivatives.proofs.Summing.{Summed, summed_start, position-within, loss_fits, cell-fits, summed_open, summed_shut, summed_end}
+use Rattle.derivatives.proofs.drops.drops_by_position.Statement.{statement}
+use Rattle.derivatives.proofs.drops.drops_by_position.Tie as tie
 
 abbrev invariant-loop : tie.invariant-loop
 invariant-loop marks arcs values paths table drops₀ n k₀ drops k = (k ≤ n) × Summed (lossy_of table marks arcs values paths) k drops

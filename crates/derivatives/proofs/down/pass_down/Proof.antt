@@ -7,10 +7,10 @@ use mathlib.Core.Path.{◌≡◌, refl, ◌∙◌}
 use mathlib.Core.List.{List}
 use lib.ListN.{length}
 use Rattle.valuing.specs.Passes.{Arcs, arcs_of}
-use Rattle.deriving.specs.Down.{pass_down, Budget}
-use Rattle.deriving.proofs.Transposing.{hand_on-length, turn_fits, turn_budget, turn_passes, pass_end}
-use Rattle.deriving.proofs.down.pass_down.Statement.{statement}
-use Rattle.deriving.proofs.down.pass_down.Tie as tie
+use Rattle.derivatives.specs.Down.{pass_down, Budget}
+use Rattle.derivatives.proofs.Transposing.{hand_on-length, turn_fits, turn_budget, turn_passes, pass_end}
+use Rattle.derivatives.proofs.down.pass_down.Statement.{statement}
+use Rattle.derivatives.proofs.down.pass_down.Tie as tie
 
 -- the invariant, over plain lists
 abbrev Pass : Arcs → (n : ℕ) → (paths₀ paths : List ℕ) → (k : ℕ) → Type 0

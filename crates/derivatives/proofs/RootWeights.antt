@@ -20,9 +20,9 @@ use Rattle.decoding.proofs.Rooting.{rewarded-next, rewarded_part}
 use Rattle.weighing.specs.declared.roots.Roots.{Roots}
 use Rattle.weighing.specs.Value.{node_position, gap, rooted_sum}
 use Rattle.weighing.proofs.HeldRoots.{RootsHeld}
-use Rattle.deriving.specs.Down.{dot, added, entered, entered_by, root_weight}
+use Rattle.derivatives.specs.Down.{dot, added, entered, entered_by, root_weight}
 use Rattle.decoding.specs.Decoding.{Rooted}
-use Rattle.deriving.proofs.Transposing.{added-length, dot-added, dot-zeros, dot_term}
+use Rattle.derivatives.proofs.Transposing.{added-length, dot-added, dot-zeros, dot_term}
 
 pub root-weights-length : (t : Table) (i : ℕ) (ws : List ℕ) → length (entered t i ws) ≡ length ws
 unfolding entered

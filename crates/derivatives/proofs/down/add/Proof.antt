@@ -1,9 +1,9 @@
 -- `add` meets its contract: the cell of the node is the one that is read and written. Assumes nothing.
 use native.Mathlib.Omega.{arith}
 use borrow.Author.Rules.{rules}
-use Rattle.deriving.proofs.Transposing.{sum_fits, added_is}
-use Rattle.deriving.proofs.down.add.Statement.{statement}
-use Rattle.deriving.proofs.down.add.Tie as tie
+use Rattle.derivatives.proofs.Transposing.{sum_fits, added_is}
+use Rattle.derivatives.proofs.down.add.Statement.{statement}
+use Rattle.derivatives.proofs.down.add.Tie as tie
 
 number-requires : tie.Need-number-requires
 number-requires c κs = search rules

@@ -15,7 +15,7 @@ use lib.Dec.{eqb}
 use borrow.Author.Tests.{eq-eqb, ne_eqb}
 use Rattle.diagram.specs.Table.{sequence}
 use Rattle.diagram.proofs.Places.{sequence-length, sequence-at}
-use Rattle.deriving.specs.Drops.{Lossy, loss_at, opens_at, loss_sum, loss_sums, Losing}
+use Rattle.derivatives.specs.Drops.{Lossy, loss_at, opens_at, loss_sum, loss_sums, Losing}
 
 -- ---------------------------------------------------------------------------
 -- One cell, read at m for node or position d

@@ -15,10 +15,10 @@ use Rattle.weighing.proofs.HeldRoots.{RootsHeld, roots-held}
 use Rattle.valuing.specs.Passes.{Marked}
 use Rattle.valuing.proofs.Bounding.{marked}
 use Rattle.valuing.proofs.Gaining.{losses_fit}
-use Rattle.deriving.specs.Drops.{derivative_at}
-use Rattle.deriving.proofs.Deriving.{root-fits, root-size, budget, losing, drops_are, drops-chosen, drops-all}
-use Rattle.deriving.proofs.two_pass.two_passes.Statement.{statement}
-use Rattle.deriving.proofs.two_pass.two_passes.Tie as tie
+use Rattle.derivatives.specs.Drops.{derivative_at}
+use Rattle.derivatives.proofs.Deriving.{root-fits, root-size, budget, losing, drops_are, drops-chosen, drops-all}
+use Rattle.derivatives.proofs.two_pass.two_passes.Statement.{statement}
+use Rattle.derivatives.proofs.two_pass.two_passes.Tie as tie
 
 -- the arrays hold the table and the plan
 holds : (c : tie.After-value-plan) → let t = c.before.before.before.before.before.args.t1 in Marked (table_in t) c.before.before.before.before.before.args.plan.now t.records t.positions t.high t.low c.value-plan.new.1.1.0 c.value-plan.result.marks

@@ -10,7 +10,7 @@ use mathlib.Core.List.{List}
 use lib.ListN.{length, get_or, set, replicate, length-set, get_or-replicate}
 use lib.Seq.{get_or-set_same, get_or-set_other}
 use Rattle.valuing.specs.Passes.{Arcs}
-use Rattle.deriving.specs.Down.{dot, record_sum, added, hand_on, HandsOn, pass_down, Budget}
+use Rattle.derivatives.specs.Down.{dot, record_sum, added, hand_on, HandsOn, pass_down, Budget}
 
 -- ---------------------------------------------------------------------------
 -- Sums of weight times value

@@ -6,9 +6,9 @@ use lib.ListN.{get_or}
 use borrow.Author.Rules.{rules}
 use Rattle.weighing.proofs.ByArc.{low_part}
 use Rattle.valuing.specs.Passes.{Arcs, arcs_of}
-use Rattle.deriving.proofs.Transposing.{added-length, first_fits, second_fits, both-added}
-use Rattle.deriving.proofs.down.hand_on.Statement.{statement}
-use Rattle.deriving.proofs.down.hand_on.Tie as tie
+use Rattle.derivatives.proofs.Transposing.{added-length, first_fits, second_fits, both-added}
+use Rattle.derivatives.proofs.down.hand_on.Statement.{statement}
+use Rattle.derivatives.proofs.down.hand_on.Tie as tie
 
 abbrev arcs : tie.Start → Arcs
 arcs c = arcs_of c.args.high.now c.args.low.now c.args.weights.now

@@ -4,11 +4,11 @@ use native.Mathlib.Omega.{arith}
 use mathlib.Core.Path.{◌≡◌, refl, sym, ◌∙◌}
 use lib.ListN.{length, get_or}
 use borrow.Author.Rules.{rules}
-use Rattle.deriving.specs.Down.{entered_by}
-use Rattle.deriving.proofs.RootWeights.{entered_by-next, root-weight-fits}
-use Rattle.deriving.proofs.Transposing.{added-length}
-use Rattle.deriving.proofs.down.enter.Statement.{statement}
-use Rattle.deriving.proofs.down.enter.Tie as tie
+use Rattle.derivatives.specs.Down.{entered_by}
+use Rattle.derivatives.proofs.RootWeights.{entered_by-next, root-weight-fits}
+use Rattle.derivatives.proofs.Transposing.{added-length}
+use Rattle.derivatives.proofs.down.enter.Statement.{statement}
+use Rattle.derivatives.proofs.down.enter.Tie as tie
 
 abbrev invariant-loop : tie.invariant-loop
 invariant-loop paths₀ roots i₀ paths i =

@@ -32,11 +32,11 @@ use Rattle.valuing.proofs.Bounding.{top-fits}
 use Rattle.valuing.proofs.Forcing.{choices-before}
 use Rattle.valuing.proofs.Passing.{position-within, mark-at-node, high_is, low-is, high-weight-is, low-weight-is, marked-fits}
 use Rattle.valuing.proofs.Gaining.{mark-number, loss_is}
-use Rattle.deriving.specs.Down.{dot, entered_by, RootFits, record_sum, pass_down, Budget}
-use Rattle.deriving.specs.Drops.{Lossy, lossy, loss_at, opens_at, loss_sum, loss_sums, Losing, is_of, value_loss, derivative_at, Chosen}
-use Rattle.deriving.proofs.Transposing.{transposed}
-use Rattle.deriving.proofs.RootWeights.{root-weights-length, all-dot, root-weights_fit, held-rooted, entered_by_lem}
-use Rattle.deriving.proofs.Leaving.{choices-later, left_step}
+use Rattle.derivatives.specs.Down.{dot, entered_by, RootFits, record_sum, pass_down, Budget}
+use Rattle.derivatives.specs.Drops.{Lossy, lossy, loss_at, opens_at, loss_sum, loss_sums, Losing, is_of, value_loss, derivative_at, Chosen}
+use Rattle.derivatives.proofs.Transposing.{transposed}
+use Rattle.derivatives.proofs.RootWeights.{root-weights-length, all-dot, root-weights_fit, held-rooted, entered_by_lem}
+use Rattle.derivatives.proofs.Leaving.{choices-later, left_step}
 
 -- ---------------------------------------------------------------------------
 -- Numbers and lists
