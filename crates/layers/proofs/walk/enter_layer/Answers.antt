@@ -5,21 +5,24 @@ use Rattle.layers.proofs.walk.enter_layer.Goals as goal
 
 pub cross-requires : goal.cross-requires
 cross-requires g c =
-    let pre = c.requires.layer_enterable in
+    let pre = c.requires.1 in
     let layer = pre.1 in
-    (layer.bounds.0, layer.long, (pre.0, layer.sized, le_trans layer.bounds.1 layer.bounds.2, layer.crosses))
+    (c.requires.0, (layer.bounds.0, layer.long, (pre.0, layer.sized, le_trans layer.bounds.1 layer.bounds.2, layer.crosses)))
 
 pub enter-requires : goal.enter-requires
 enter-requires g c =
-    let pre = c.requires.layer_enterable in
+    let pre = c.requires.1 in
     let layer = pre.1 in
     let crossed = c.cross.ensures in (
-      layer.bounds.1,
-      rw (crossed, crossed_length) layer.long,
-      (pre.0, layer.sized, layer.bounds.2, λ i h. rw crossed (layer.enters i h), rw crossed layer.drops),
+      c.requires.0,
+      (
+        layer.bounds.1,
+        rw (crossed, crossed_length) layer.long,
+        (pre.0, layer.sized, layer.bounds.2, λ i h. rw crossed (layer.enters i h), rw crossed layer.drops),
+      ),
     )
 
 pub returns : goal.returns
 returns g c =
     let crossed = c.cross.ensures in
-    record { drop = rw (← crossed) c.enter.ensures.0; cells = rw (← crossed) c.enter.ensures.1 }
+    record { drop = rw (← crossed) c.enter.ensures.drop; cells = rw (← crossed) c.enter.ensures.cells }
