@@ -60,7 +60,7 @@ refusal_stands r (c ∷ cs) s = refusal_stands r cs s
 pub finding-append : (v : Verdict) (cs ds : List Check) (s : List ℕ) → finding_after v (cs ++ ds) s ≡ finding_after (finding_after v cs s) ds s
 unfolding finding_after
 finding-append v [] ds s = refl
-finding-append v (c ∷ cs) ds s = finding-append _ cs ds s
+finding-append v (c ∷ cs) ds s = finding-append (and_then v c.number (fault_of (c.fault s))) cs ds s
 
 -- some checks, and some more
 pub and_finding : (u : Verdict) {v w : Verdict} (cs ds : List Check) (s : List ℕ) → v ≡ finding_after u cs s → w ≡ finding_after v ds s → w ≡ finding_after u (cs ++ ds) s
@@ -100,12 +100,12 @@ first_passes c cs s e = go (c.fault s) refl
     go (some i) q = absurd (refused_not_passes _ (sym (refusal_stands _ cs s) ∙ rw q at e))
 
 -- and so each of its checks
-passes_each : {cs : List Check} (s : List ℕ) → finding cs s ≡ Passes → (number : ℕ) (fault : List ℕ → Option ℕ) → Among (record { number = number; fault = fault }) cs → fault s ≡ none
-passes_each s e number fault first = (first_passes _ _ s e).0
-passes_each s e number fault (later h) = passes_each s (first_passes _ _ s e).1 number fault h
+passes_each : (c : Check) {cs : List Check} (s : List ℕ) → finding cs s ≡ Passes → Among c cs → c.fault s ≡ none
+passes_each c s e first = (first_passes _ _ s e).0
+passes_each c s e (later h) = passes_each c s (first_passes _ _ s e).1 h
 
 pub passes_among : (v : Verdict) {w : Verdict} {cs : List Check} (s : List ℕ) → w ≡ finding_after v cs s → w ≡ Passes → (number : ℕ) (fault : List ℕ → Option ℕ) → Among (record { number = number; fault = fault }) cs → fault s ≡ none
-passes_among v {w} {cs} s e q number fault h = passes_each s (sym (rw (passes-before cs s e q) at e) ∙ q) number fault h
+passes_among v {w} {cs} s e q number fault h = passes_each (record { number = number; fault = fault }) s (sym (rw (passes-before cs s e q) at e) ∙ q) h
 
 -- one check that finds nothing before others that find nothing
 pub passes-next : (c : Check) (cs : List Check) (s : List ℕ) → c.fault s ≡ none → finding cs s ≡ Passes → finding (c ∷ cs) s ≡ Passes
