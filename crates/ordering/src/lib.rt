@@ -1,5 +1,6 @@
 // Lists of numbers in arrays, the nodes of a table in order of position, and the arcs into them.
 #![tactic(auto)]
+
 mod chains;
 mod numbers;
 mod order;
