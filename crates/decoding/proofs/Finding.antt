@@ -1,13 +1,12 @@
 -- The loop over the variables of a file that finds the choices, with their positions and their kits.
 -- Assumes nothing.
-use Prim.Native.Nat.{ℕ, zero, suc, ◌+◌, ◌-◌, ◌≤◌, ◌<◌}
-use native.Mathlib.Nat.{zero-add}
+use Prim.Native.Nat.{ℕ, suc, ◌+◌, ◌-◌, ◌≤◌, ◌<◌}
 use native.Mathlib.Numerals.{add-one}
 use native.Mathlib.Omega.{arith}
 use mathlib.Core.Path.{◌≡◌, refl, ap, sym, ◌∙◌}
-use mathlib.Core.Bool.{Bool, true, false, cond}
+use mathlib.Core.Bool.{true, false, cond}
 use mathlib.Core.List.{List, [], ◌∷◌, ◌++◌, append-nil}
-use lib.ListN.{length, get_or, set, drop, replicate, length-append, drop_of_length-le}
+use lib.ListN.{length, set, drop, replicate, length-append, drop_of_length-le}
 use lib.Seq.{drop-cons, append_snoc}
 use Rattle.diagram.specs.Words.{word_at, field_r}
 use Rattle.diagram.specs.Table.{Variable, choice, chance, sequence, variable_of, is_choice, kits_of, table_of, variable_count, choice_count}

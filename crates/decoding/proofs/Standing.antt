@@ -1,6 +1,6 @@
 -- A decoded table stands for the table of its file, if its arrays hold the file's parts.
 -- Assumes nothing.
-use Prim.Native.Nat.{ℕ, zero, suc, ◌+◌, ◌-◌, ◌≤◌, ◌<◌}
+use Prim.Native.Nat.{ℕ, zero, suc, ◌+◌, ◌≤◌, ◌<◌}
 use native.Mathlib.Nat.{zero-add}
 use native.Mathlib.Omega.{arith}
 use mathlib.Core.Path.{◌≡◌, refl, ap, sym, ◌∙◌}
@@ -9,12 +9,11 @@ use mathlib.Core.List.{List, [], ◌∷◌}
 use lib.ListN.{length, get_or, take}
 use lib.Seq.{ext_get_or}
 use Rattle.diagram.specs.Words.{word_at}
-use Rattle.diagram.specs.Table.{Variable, choice, chance, Record, Root, Table, sequence, is_choice, variable_of, record_of, record_at, variable_count, record_count, choice_count, table_of, scale}
+use Rattle.diagram.specs.Table.{Variable, choice, chance, Record, Root, sequence, is_choice, variable_of, record_of, record_at, variable_count, record_count, choice_count, table_of, scale}
 use Rattle.diagram.proofs.Places.{sequence-length, sequence-at, sequence_past}
 use Rattle.decoding.specs.declared.table.Decoded.{Decoded}
 use Rattle.decoding.specs.Nodes.{column}
 use Rattle.decoding.specs.Decoding.{pad_to, positions_from, choice_positions, root_at, root_nodes, root_rewards, variables_in, records_in, roots_in, table_in, Held}
-use Rattle.decoding.proofs.Choosing.{variables-length}
 use Rattle.decoding.proofs.Shape.{record-at-word}
 use Rattle.decoding.proofs.Columns.{column-at}
 use Rattle.decoding.proofs.Kits.{kits-length}
