@@ -1,6 +1,7 @@
 // Plans: the top, the drops, the forced lines, the best candidate and the visits, by every full plan: a part of the second planner
 // (`counter`).
 #![tactic(auto)]
+
 mod plans;
 mod visits;
 
