@@ -55,7 +55,7 @@ module _ (test : List ℕ → Bool) where
       go below true e (Memᴰ.tail j) = (Memᴰ.tail (below j).0, (below j).1)
       go below false e j = (Memᴰ.tail (below j).0, (below j).1)
 
-  select_in : {cs : List (List ℕ)} {c : List ℕ} → In c cs → test c ≡ true → In c (select test cs)
+  select_in : {c : List ℕ} {cs : List (List ℕ)} → In c cs → test c ≡ true → In c (select test cs)
   unfolding select
   select_in (Memᴰ.head q) h = rw (rw q at h) (Memᴰ.head q)
   select_in (Memᴰ.tail {x} j) h = go (test x) (select_in j h)
