@@ -6,6 +6,7 @@
 // Every function is proved safe and ending; none has a contract. A table that passes check 27 and
 // has more than 16 variables is answered by 99, which is no number of the planner.
 #![tactic(auto)]
+
 mod checks;
 
 use checks::{Asked, check, check_table};
