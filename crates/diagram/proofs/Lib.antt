@@ -8,3 +8,4 @@ pub mod Implication
 pub mod FirstVariable
 pub mod Rising
 pub mod LeastPassing
+pub mod Starred
