@@ -154,18 +154,18 @@ pub record Meets (ps hs ls : List ℕ) (m n : ℕ) : Type 0 where
 module _ {ps hs ls : List ℕ} {m n : ℕ} (h : Meets ps hs ls m n) where
   first-held : smaller ps m n ≡ min (position_of (end_of ps) (records_of ps hs ls) m) (position_of (end_of ps) (records_of ps hs ls) n)
   first-held =
-      rw (position-held ps hs ls h.pairs.ends m h.m-small, position-held ps hs ls h.pairs.ends n h.n-small)
+      rw (position-held ps hs ls h.pairs.ends m h.m_small, position-held ps hs ls h.pairs.ends n h.n_small)
 
   before-ends : smaller ps m n < end_of ps
   before-ends = first_less h.pairs.formed m n _ h.met first-held
 
   m_next : (b : Bool) → follow (end_of ps) (records_of ps hs ls) (smaller ps m n) b m ≡ next ps (cond b hs ls) m n
   m_next b =
-      rw (follow-held ps hs ls h.pairs.ends b (smaller ps m n) m before-ends h.m-small, moves (get_or ps m 0) (get_or ps n 0) (smaller ps m n) refl)
+      rw (follow-held ps hs ls h.pairs.ends b (smaller ps m n) m before-ends h.m_small, moves (get_or ps m 0) (get_or ps n 0) (smaller ps m n) refl)
 
   n_next : (b : Bool) → follow (end_of ps) (records_of ps hs ls) (smaller ps m n) b n ≡ next ps (cond b hs ls) n m
   n_next b =
-      rw (follow-held ps hs ls h.pairs.ends b (smaller ps m n) n before-ends h.n-small, moves (get_or ps n 0) (get_or ps m 0) (smaller ps m n) (omega arith))
+      rw (follow-held ps hs ls h.pairs.ends b (smaller ps m n) n before-ends h.n_small, moves (get_or ps n 0) (get_or ps m 0) (smaller ps m n) (omega arith))
 
   -- neither number rises, and their sum falls
   pub next_le : (b : Bool) → (next ps (cond b hs ls) m n ≤ m) × (next ps (cond b hs ls) n m ≤ n)
@@ -178,8 +178,8 @@ module _ {ps hs ls : List ℕ} {m n : ℕ} (h : Meets ps hs ls m n) where
   -- the pair that they lead to stands later
   pub next-later : (b : Bool) → smaller ps m n < smaller ps (next ps (cond b hs ls) m n) (next ps (cond b hs ls) n m)
   next-later b =
-      let m_small = h.m-small in
-      let n_small = h.n-small in
+      let m_small = h.m_small in
+      let n_small = h.n_small in
       let m-le = (next_le b).0 in
       let n-le = (next_le b).1 in
       let m-held = position-held ps hs ls h.pairs.ends (next ps (cond b hs ls) m n) (omega arith) in

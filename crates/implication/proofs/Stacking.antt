@@ -97,7 +97,7 @@ module _ {ps hs ls met stack met' stack' : List ℕ} {c d x y depth depth' m n :
   met_left : zeros met' + depth' ≡ zeros met + depth
   met_left =
       let end = g.end in
-      omega (arith, zeros-marked g.cells g.m-small g.n-small)
+      omega (arith, zeros-marked g.cells g.m_small g.n_small)
 
   -- a pair that was met before is so now, and m, n is
   kept : (a b : ℕ) → cell met a b ≡ 1 → cell met' a b ≡ 1
@@ -169,7 +169,7 @@ module _ {ps hs ls met stack met' stack' : List ℕ} {c d x y depth depth' m n :
         let end = g.end in
         let shallow = h.room.shallow in
         by_cases (dec_lt (cell met m n) 1)
-        (λ f. omega (arith, late f, position-few h.pairs m g.m-small))
+        (λ f. omega (arith, late f, position-few h.pairs m g.m_small))
         (λ f. omega arith)
 
     roomy : Room met' stack' depth'
@@ -188,7 +188,7 @@ module _ {ps hs ls met stack met' stack' : List ℕ} {c d x y depth depth' m n :
           room = roomy;
           asked = asked;
           origin = kept 0 0 h.origin;
-          small = each_slot (λ _ a b. (a < 256) × (b < 256)) h.small (λ _. (g.m-small, g.n-small));
+          small = each_slot (λ _ a b. (a < 256) × (b < 256)) h.small (λ _. (g.m_small, g.n_small));
           waiting = each_slot (λ _ a b. cell met' a b ≡ 1) (λ j l. kept _ _ (h.waiting j l)) (λ _. here);
           deep = each_slot (λ j a b. j ≤ smaller ps a b + 1) h.deep late;
           traced = λ a b la lb e. by_cases (dec_lt (cell met a b) 1)
