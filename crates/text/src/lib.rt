@@ -1,6 +1,7 @@
 // The lines of the printout. Each function writes from an index on and answers the index after what it has written; whoever
 // calls has the room that it asks for.
 #![tactic(auto)]
+
 ghost use Rattle.std.specs.Prelude.{◌+◌, ◌*◌, ◌≤◌, ◌<◌, length};
 ghost use Rattle.diagram.specs.Printout.{refusal_text, mark_lines};
 ghost use Rattle.writing.specs.Wrote.{Wrote};
