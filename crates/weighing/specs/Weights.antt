@@ -1,5 +1,5 @@
 -- What is computed once for a table. Arrays by position have one entry for each position up to 63; the weights of arcs stand by the arcs' numbers.
-use Rattle.std.specs.Prelude.{ℕ, zero, suc, ◌+◌, ◌*◌, ◌/◌, ◌≤◌, ◌<◌, ◌^◌, ◌≡◌, List, length, get_or, set, drop}
+use Rattle.std.specs.Prelude.{ℕ, zero, suc, ◌+◌, ◌*◌, ◌/◌, ◌≤◌, ◌<◌, ◌^◌, List, length, get_or, set, drop}
 use Rattle.diagram.specs.Table.{Variable, Table, chance, sequence, scale_of}
 use Rattle.decoding.specs.Decoding.{pad_to, root_at, root_nodes}
 use Rattle.ordering.specs.Numbers.{high_arc_number, low_arc_number}
