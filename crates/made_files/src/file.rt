@@ -1,6 +1,6 @@
 // A table file in the making, and the words in it.
 ghost use Rattle.std.specs.Prelude.{◌<◌};
-ghost use Rattle.io.specs.Counts.{IsPrefixLen};
+ghost use Rattle.made_files.specs.Counts.{IsPrefixLen};
 
 use crate::draws::{counted, least, minus, over, plus, times};
 use crate::marks::Marks;

@@ -1,5 +1,6 @@
 // Table files and plans in the making, for tests, from numbers that look random.
 #![tactic(auto)]
+
 mod draws;
 mod file;
 mod marks;

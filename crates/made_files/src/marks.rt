@@ -1,5 +1,5 @@
 // Plans in the making, and buffers for them.
-ghost use Rattle.io.specs.Counts.{IsPrefixLen};
+ghost use Rattle.made_files.specs.Counts.{IsPrefixLen};
 
 use crate::draws::{draw, fork, least, once_in, plus};
 
