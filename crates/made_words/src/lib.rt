@@ -1,5 +1,6 @@
 // The variable words and the root words of a table for tests.
 #![tactic(auto)]
+
 mod roots;
 mod variables;
 
