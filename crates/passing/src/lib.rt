@@ -1,5 +1,6 @@
 // Which scores pass a percentage: those that are not less than the least that does, which is found once for a request.
 #![tactic(auto)]
+
 ghost use Rattle.std.specs.Prelude.{◌≡◌, ◌≤◌, ◌^◌, leb};
 ghost use Rattle.diagram.specs.Table as tables;
 ghost use Rattle.diagram.specs.Table.{Table};

@@ -1,16 +1,15 @@
-use Prim.Native.Nat.{◌-◌}
 use native.Mathlib.Omega.{arith}
-use mathlib.Core.Logic.{⊎_elim}
 use Rattle.cost.proofs.Steps.{counted-taken, counted_other, counted-all}
 use Rattle.cost.proofs.cost_of.Goals as goal
+use Rattle.cost.proofs.cost_of.Goals.{then-plan-i-eq-TAKEN, else-plan-i-eq-TAKEN}
 
 pub loop-i-preserved : goal.loop-i-preserved
 loop-i-preserved c =
     let at = c.loop-i in
-    ⊎_elim
-    (λ w. (omega (arith, w.2.ensures, w.3), counted-taken _ _ at.i at.cost at.invariant.1 (omega arith) w.0.taken w.2.ensures.0 w.3))
-    (λ w. (omega (arith, w.1), counted_other _ _ at.i at.cost at.invariant.1 (omega arith) w.0.left w.1))
-    c.if-plan-i-eq-TAKEN.branch
+    elim c.if-plan-i-eq-TAKEN.branch [
+      | then-plan-i-eq-TAKEN w ↦ (omega (arith, w.wide-cost.ensures, w.cost-is), counted-taken _ _ at.i at.cost at.invariant.1 (omega arith) w.if-plan-i-eq-TAKEN.true w.wide-cost.ensures.0 w.cost-is)
+      | else-plan-i-eq-TAKEN w ↦ (omega (arith, w.cost-is), counted_other _ _ at.i at.cost at.invariant.1 (omega arith) w.if-plan-i-eq-TAKEN.false w.cost-is)
+    ]
 
 pub returns : goal.returns
 returns c = counted-all _ _ c.loop-i.i _ c.loop-i.invariant.1 (omega arith)
