@@ -6,15 +6,10 @@ use mathlib.Core.Bool.{Bool, true, false, ◌&&◌, ◌||◌, false≢true, or-f
 use mathlib.Core.Logic.{◌⊎◌, ⊎_elim}
 use lib.Dec.{eqb, leb}
 use borrow.Author.Tests.{le-leb, eq-eqb, ne_eqb, leb-true, eqb-true}
-use borrow.Author.Rules.{rules}
 use Rattle.diagram.specs.Words.{kind, field_p, field_q, field_r}
 use Rattle.diagram.specs.Checks.{is_variable_word}
 use Rattle.diagram.proofs.Every.{both, both_ways}
-use Rattle.checking.proofs.variables.is_variable_word.Statement.{statement}
-use Rattle.checking.proofs.variables.is_variable_word.Tie as tie
-
--- ---------------------------------------------------------------------------
--- The tests
+use Rattle.checking.proofs.variables.is_variable_word.Goals as goal
 
 either : (a : Bool) {b : Bool} → (a || b) ≡ true → (a ≡ true) ⊎ (b ≡ true)
 either true h = ◌⊎◌.inl refl
@@ -53,68 +48,28 @@ chance_end i w p k r b =
 -- ---------------------------------------------------------------------------
 -- The returns
 
-field-p-requires : tie.Need-field-p-requires
-field-p-requires c κs = search rules
+pub returns-then-field_p-number : goal.returns-then-field_p-number
+returns-then-field_p-number c = not_variable _ _ (λ p k q. omega arith) (λ p k r b. omega arith)
 
-cast-if1 : tie.Need-overflow-cast-if1
-cast-if1 c = search rules
+pub returns-then-a-ne0 : goal.returns-then-a-ne0
+returns-then-a-ne0 c = not_variable _ _ (λ p k q. omega arith) (λ p k r b. omega arith)
 
-number-requires : tie.Need-number-requires
-number-requires c κs = search rules
+pub returns-then-kind-eq2 : goal.returns-then-kind-eq2
+returns-then-kind-eq2 c = rw c.field_r-b.ensures (choice_end _ _ (omega arith) (omega arith) (omega arith))
 
-returns : tie.Need-returns
-returns c = not_variable _ _ (λ p k q. omega arith) (λ p k r b. omega arith)
+pub returns-then-kind-ne3 : goal.returns-then-kind-ne3
+returns-then-kind-ne3 c = not_variable _ _ (λ p k q. omega arith) (λ p k r b. omega arith)
 
-field-q-requires : tie.Need-field-q-requires
-field-q-requires c κs = search rules
+pub returns-then-b-lt1 : goal.returns-then-b-lt1
+returns-then-b-lt1 c = not_variable _ _ (λ p k q. omega arith) (λ p k r b. omega arith)
 
-field-r-requires : tie.Need-field-r-requires
-field-r-requires c κs = search rules
+pub returns-then-b-gt-MOST_PARTS : goal.returns-then-b-gt-MOST_PARTS
+returns-then-b-gt-MOST_PARTS c = not_variable _ _ (λ p k q. omega arith) (λ p k r b. omega arith)
 
-kind-requires : tie.Need-kind-requires
-kind-requires c κs = search rules
-
-returns-2 : tie.Need-returns-2
-returns-2 c = not_variable _ _ (λ p k q. omega arith) (λ p k r b. omega arith)
-
-returns-3 : tie.Need-returns-3
-returns-3 c = rw c.before.before.before.field-r.ensures (choice_end _ _ (omega arith) (omega arith) (omega arith))
-
-kind-requires-2 : tie.Need-kind-requires-2
-kind-requires-2 c κs = search rules
-
-returns-4 : tie.Need-returns-4
-returns-4 c = not_variable _ _ (λ p k q. omega arith) (λ p k r b. omega arith)
-
-returns-5 : tie.Need-returns-5
-returns-5 c = not_variable _ _ (λ p k q. omega arith) (λ p k r b. omega arith)
-
-returns-6 : tie.Need-returns-6
-returns-6 c = not_variable _ _ (λ p k q. omega arith) (λ p k r b. omega arith)
-
-returns-7 : tie.Need-returns-7
-returns-7 c =
+pub returns : goal.returns
+returns c =
     rw (
-      c.before.before.before.before.before.before.before.field-q.ensures,
-      c.before.before.before.before.before.before.field-r.ensures,
+      c.field_q-a.ensures,
+      c.field_r-b.ensures,
     )
     (chance_end _ _ (omega arith) (omega arith) (omega arith) (omega arith))
-
-pub is_variable_word_spec : {M : Type 1} → statement M
-is_variable_word_spec =
-    tie.close
-    (tie.spec
-    field-p-requires
-    cast-if1
-    number-requires
-    returns
-    field-q-requires
-    field-r-requires
-    kind-requires
-    returns-2
-    returns-3
-    kind-requires-2
-    returns-4
-    returns-5
-    returns-6
-    returns-7)

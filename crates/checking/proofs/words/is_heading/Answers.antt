@@ -5,15 +5,10 @@ use mathlib.Core.Path.{◌≡◌}
 use mathlib.Core.Bool.{false, ◌&&◌, false≢true}
 use lib.Dec.{eqb, leb}
 use borrow.Author.Tests.{le-leb, eq-eqb, leb-true, eqb-true}
-use borrow.Author.Rules.{rules}
 use Rattle.diagram.specs.Words.{kind, field_p, field_q, field_r}
 use Rattle.diagram.specs.Checks.{is_heading}
 use Rattle.diagram.proofs.Every.{both, both_ways}
-use Rattle.checking.proofs.words.is_heading.Statement.{statement}
-use Rattle.checking.proofs.words.is_heading.Tie as tie
-
--- ---------------------------------------------------------------------------
--- The tests
+use Rattle.checking.proofs.words.is_heading.Goals as goal
 
 -- a word is no heading where one of the tests before R fails
 not_heading : (w : ℕ) → (kind w ≡ 1 → 1 ≤ field_p w → field_p w ≤ 60 → 1 ≤ field_q w → field_q w ≤ 254 → ⊥) → false ≡ is_heading w
@@ -35,49 +30,22 @@ heading_end w k p v q n = simp (eq-eqb _ _ k, le-leb _ _ p, le-leb _ _ v, le-leb
 -- ---------------------------------------------------------------------------
 -- The returns
 
-kind-requires : tie.Need-kind-requires
-kind-requires c κs = search rules
+pub returns-then-kind-ne1 : goal.returns-then-kind-ne1
+returns-then-kind-ne1 c = not_heading _ (λ k p v q n. omega arith)
 
-returns : tie.Need-returns
-returns c = not_heading _ (λ k p v q n. omega arith)
+pub returns-then-v-lt1 : goal.returns-then-v-lt1
+returns-then-v-lt1 c = not_heading _ (λ k p v q n. omega arith)
 
-field-p-requires : tie.Need-field-p-requires
-field-p-requires c κs = search rules
+pub returns-then-v-gt-MOST_VARIABLES : goal.returns-then-v-gt-MOST_VARIABLES
+returns-then-v-gt-MOST_VARIABLES c = not_heading _ (λ k p v q n. omega arith)
 
-returns-2 : tie.Need-returns-2
-returns-2 c = not_heading _ (λ k p v q n. omega arith)
+pub returns-then-n-lt1 : goal.returns-then-n-lt1
+returns-then-n-lt1 c = not_heading _ (λ k p v q n. omega arith)
 
-returns-3 : tie.Need-returns-3
-returns-3 c = not_heading _ (λ k p v q n. omega arith)
+pub returns-then-n-gt-MOST_RECORDS : goal.returns-then-n-gt-MOST_RECORDS
+returns-then-n-gt-MOST_RECORDS c = not_heading _ (λ k p v q n. omega arith)
 
-field-q-requires : tie.Need-field-q-requires
-field-q-requires c κs = search rules
-
-returns-4 : tie.Need-returns-4
-returns-4 c = not_heading _ (λ k p v q n. omega arith)
-
-returns-5 : tie.Need-returns-5
-returns-5 c = not_heading _ (λ k p v q n. omega arith)
-
-field-r-requires : tie.Need-field-r-requires
-field-r-requires c κs = search rules
-
-returns-6 : tie.Need-returns-6
-returns-6 c =
-    rw c.field-r.ensures
+pub returns : goal.returns
+returns c =
+    rw c.field_r.ensures
     (heading_end _ (omega arith) (omega arith) (omega arith) (omega arith) (omega arith))
-
-pub is_heading_spec : {M : Type 1} → statement M
-is_heading_spec =
-    tie.close
-    (tie.spec
-    kind-requires
-    returns
-    field-p-requires
-    returns-2
-    returns-3
-    field-q-requires
-    returns-4
-    returns-5
-    field-r-requires
-    returns-6)
