@@ -2,6 +2,7 @@
 // which is 0 where none is held, and the visits. A plan's room is the kits that it leaves and one more, and 0 where it costs more
 // than the budget. The marks of the best plan held stand beside them.
 #![tactic(auto)]
+
 ghost use Rattle.std.specs.Prelude.{◌≡◌, not, ◌||◌, ◌<◌, ◌^◌, length, eqb, leb};
 ghost use Rattle.diagram.specs.Ranking.{takes_first};
 ghost use Rattle.incumbent.specs.Tally.{cutoff, visits_counted, visit_added, ranks_over_held, best_kept, tally_kept};
