@@ -1,5 +1,6 @@
 // Tables for tests, each decided by a seed: mixed ones, wide ones and ladders.
 #![tactic(auto)]
+
 mod ladders;
 mod records;
 mod tables;
