@@ -3,8 +3,7 @@ use Prim.Native.Nat.{ℕ}
 use mathlib.Core.Path.{◌≡◌}
 use borrow.Author.Tests.{eq-eqb, ne_eqb}
 use Rattle.valuing.specs.Passes.{low_in_force}
-use Rattle.valuing.proofs.force.low_weight.Statement.{statement}
-use Rattle.valuing.proofs.force.low_weight.Tie as tie
+use Rattle.valuing.proofs.force.low_weight.Goals as goal
 
 -- the lo arc of a line that is taken, and of any other
 taken_closed : {m : ℕ} (w : ℕ) → m ≡ 1 → 0 ≡ low_in_force m w
@@ -15,11 +14,8 @@ other_open : {m : ℕ} (w : ℕ) → (m ≡ 1 → ⊥) → w ≡ low_in_force m 
 unfolding low_in_force
 other_open w f = simp (ne_eqb _ _ f)
 
-returns : tie.Need-returns
-returns c = taken_closed _ c.if1.true
+pub returns-then-mark-eq-TAKEN : goal.returns-then-mark-eq-TAKEN
+returns-then-mark-eq-TAKEN c = taken_closed _ c.if-mark-eq-TAKEN.true
 
-returns-2 : tie.Need-returns-2
-returns-2 c = other_open _ c.if1.false
-
-pub low_weight_spec : {M : Type 1} → statement M
-low_weight_spec = tie.close (tie.spec returns returns-2)
+pub returns-else-mark-eq-TAKEN : goal.returns-else-mark-eq-TAKEN
+returns-else-mark-eq-TAKEN c = other_open _ c.if-mark-eq-TAKEN.false

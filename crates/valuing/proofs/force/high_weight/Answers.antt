@@ -3,8 +3,7 @@ use Prim.Native.Nat.{ℕ}
 use mathlib.Core.Path.{◌≡◌}
 use borrow.Author.Tests.{eq-eqb, ne_eqb}
 use Rattle.valuing.specs.Passes.{high_in_force}
-use Rattle.valuing.proofs.force.high_weight.Statement.{statement}
-use Rattle.valuing.proofs.force.high_weight.Tie as tie
+use Rattle.valuing.proofs.force.high_weight.Goals as goal
 
 -- the hi arc of a line that is left, and of any other
 left_closed : {m : ℕ} (w : ℕ) → m ≡ 2 → 0 ≡ high_in_force m w
@@ -15,11 +14,8 @@ other_open : {m : ℕ} (w : ℕ) → (m ≡ 2 → ⊥) → w ≡ high_in_force m
 unfolding high_in_force
 other_open w f = simp (ne_eqb _ _ f)
 
-returns : tie.Need-returns
-returns c = left_closed _ c.if1.true
+pub returns-then-mark-eq-LEFT : goal.returns-then-mark-eq-LEFT
+returns-then-mark-eq-LEFT c = left_closed _ c.if-mark-eq-LEFT.true
 
-returns-2 : tie.Need-returns-2
-returns-2 c = other_open _ c.if1.false
-
-pub high_weight_spec : {M : Type 1} → statement M
-high_weight_spec = tie.close (tie.spec returns returns-2)
+pub returns-else-mark-eq-LEFT : goal.returns-else-mark-eq-LEFT
+returns-else-mark-eq-LEFT c = other_open _ c.if-mark-eq-LEFT.false
