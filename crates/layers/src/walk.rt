@@ -15,11 +15,9 @@ pub fn enter_layer(
     cells: &mut [u64; 512],
     layer: Layer,
 ) -> u64
-    ghost l: { Layers }
-    requires arcs_value { layers_of starts.now sources.now arcs.now ≡ l }
-    requires layer_enterable { LayerEnterable l losses.now layer cells.old }
-    ensures drop { result ≡ layer_drop l losses.now layer cells.old }
-    ensures cells { cells.new ≡ layer_entered l layer cells.old }
+    requires layer_enterable { let l : Layers = layers_of starts.now sources.now arcs.now in LayerEnterable l losses.now layer cells.old }
+    ensures drop { let l : Layers = layers_of starts.now sources.now arcs.now in result ≡ layer_drop l losses.now layer cells.old }
+    ensures cells { let l : Layers = layers_of starts.now sources.now arcs.now in cells.new ≡ layer_entered l layer cells.old }
 {
     cross(starts, sources, arcs, cells, layer);
     enter(starts, sources, arcs, losses, cells, layer)
