@@ -51,7 +51,7 @@ further m {c} {d} h =
   where
     alike : (i : ℕ) → i < suc h.line → get_or (m ∷ c) i 0 ≡ get_or (m ∷ d) i 0
     alike zero l = refl
-    alike (suc i) l = h.alike-before i (omega arith)
+    alike (suc i) l = h.alike_before i (omega arith)
 
 -- at the lowest choice number where two completions of a plan differ, the one that comes first takes and the other leaves
 first-line : {p c d : List ℕ} → Completes p c → Completes p d → takes_first c d ≡ true → TakesFirst c d

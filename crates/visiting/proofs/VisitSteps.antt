@@ -133,7 +133,7 @@ module _ {g : Scene} {l : Layers} {losses lines cells marks best tally : List �
       unfolding terms
       visit_full none eb et =
           let stands = given.stands in
-          let full = branching.plan-full given.ground stands none in
+          let full = branching.plan_full given.ground stands none in
           let rules = rule_full (parts g) g.plan found (back_test ∙ stays) in
           let before = ranks_over bound room marks (get_or tally₁ 0 0) (get_or tally₁ 1 0) best in
           let long : length (set (set tally₁ 0 bound) 1 room) ≡ 3 = simp length-set counted-size in
@@ -230,7 +230,7 @@ module _ {g : Scene} {l : Layers} {losses lines cells marks best tally : List �
 
           after_first : ruled first (get_or tally₁ 2 0) ≡ after
           after_first =
-              rw (branching.line-lowest given.ground given.stands more, counted-visits, (branching.marked-count given.ground given.stands more 0).1) refl
+              rw (branching.line_lowest given.ground given.stands more, counted-visits, (branching.marked-count given.ground given.stands more 0).1) refl
 
           -- the cells are the same up to the end of the layer
           first-same : Same to (own_nodes l own (to - own) (cross_nodes l from (own - from) cells)) cells₂
@@ -254,7 +254,7 @@ module _ {g : Scene} {l : Layers} {losses lines cells marks best tally : List �
               -- the second test is the rule's
               worth_test : {b : Bool} → leb (get_or tally₂ 0 0) left ≡ b → worthwhile (parts g) (set g.plan (lowest_open g.plan) 2) after.held ≡ b
               worth_test worth =
-                  ap (λ (i : ℕ). worthwhile (parts g) (set g.plan i 2) after.held) (branching.line-lowest given.ground given.stands more)
+                  ap (λ (i : ℕ). worthwhile (parts g) (set g.plan i 2) after.held) (branching.line_lowest given.ground given.stands more)
                   ∙ worth_is (rw after_first at first-left.holds) g.percent given.ground.passing (set g.plan d 2) left-bound refl
                   ∙ not_twice _
                   ∙ worth
@@ -267,7 +267,7 @@ module _ {g : Scene} {l : Layers} {losses lines cells marks best tally : List �
                     sizes = first-left.sizes;
                     holds = rw (rules, ← after_first) first-left.holds;
                     counts = rw (rules, ← after_first) first-left.counts;
-                    kept = rw first-left.kept (branching.marks-back given.ground given.stands more 1);
+                    kept = rw first-left.kept (branching.marks_back given.ground given.stands more 1);
                     same = branching.same-before given.ground given.stands more sizes.0 first-same;
                   }
 
@@ -318,7 +318,7 @@ module _ {g : Scene} {l : Layers} {losses lines cells marks best tally : List �
                 after-second : ruled second (get_or tally₂ 2 0) ≡ rule (n - 1) (parts g) (set g.plan (lowest_open g.plan) 2) after
                 after-second =
                     rw
-                    (first-left.counts, after_first, (branching.marked-count given.ground given.stands more 1).1, branching.line-lowest given.ground given.stands more)
+                    (first-left.counts, after_first, (branching.marked-count given.ground given.stands more 1).1, branching.line_lowest given.ground given.stands more)
                     refl
 
                 -- a visit that ends after both
@@ -329,8 +329,8 @@ module _ {g : Scene} {l : Layers} {losses lines cells marks best tally : List �
                       sizes = second-left.sizes;
                       holds = rw (rules, ← after-second) second-left.holds;
                       counts = rw (rules, ← after-second) second-left.counts;
-                      kept = rw (second-left.kept, second-marks) (branching.marks-back given.ground given.stands more 2);
-                      same = branching.same-before-too given.ground given.stands more sizes.0 first-same first-left.sizes.0 second-left.same;
+                      kept = rw (second-left.kept, second-marks) (branching.marks_back given.ground given.stands more 2);
+                      same = branching.same-before_too given.ground given.stands more sizes.0 first-same first-left.sizes.0 second-left.same;
                     }
 
               -- ---------------------------------------------------------------------------
