@@ -1,5 +1,6 @@
 // What the comparison counts, and how it is printed.
 use counter::Verdict;
+use std::io;
 
 // For each service the requests tried, those whose answers agree, and those of these that are answered and not refused; for each
 // number the requests that both refuse with it; and how many differ, with the first of these by service and table.
@@ -132,90 +133,94 @@ impl Tally {
     }
 
     // Prints the tally.
-    pub fn show(self) {
-        self.show_services();
-        self.show_refusals();
+    pub fn show(self, rt: &impl Print) -> io::Result<()> {
+        self.show_services(rt)?;
+        self.show_refusals(rt)?;
         if self.differ == 0 {
-            show_text(b"all");
-            show_number(self.total());
-            show_text(b" agree\n");
+            show_text(rt, b"all")?;
+            show_number(rt, self.total())?;
+            show_text(rt, b" agree\n")
         } else {
-            self.show_differences();
+            self.show_differences(rt)
         }
     }
 
-    fn show_services(self) {
+    fn show_services(self, rt: &impl Print) -> io::Result<()> {
         let mut service = 0;
         while service < 5 {
-            self.show_service(service);
+            self.show_service(rt, service)?;
             service += 1;
         }
+        Ok(())
     }
 
-    fn show_refusals(self) {
+    fn show_refusals(self, rt: &impl Print) -> io::Result<()> {
         let mut number = 0;
         while number < 33 {
-            self.show_refused(number);
+            self.show_refused(rt, number)?;
             number += 1;
         }
+        Ok(())
     }
 
     // How many requests differ, and the first of them.
-    fn show_differences(self) {
-        self.show_differing();
+    fn show_differences(self, rt: &impl Print) -> io::Result<()> {
+        self.show_differing(rt)?;
         let mut i = 0;
         while i < 8 {
-            self.show_different(i);
+            self.show_different(rt, i)?;
             i += 1;
         }
+        Ok(())
     }
 
     // The line of a service.
-    fn show_service(self, service: usize) {
-        show_name(service);
-        show_text(b": tried");
-        show_number(self.tried_of(service));
-        show_text(b", agreed");
-        show_number(self.agreed_of(service));
-        show_text(b", answered");
-        show_number(self.answered_of(service));
-        show_text(b"\n");
+    fn show_service(self, rt: &impl Print, service: usize) -> io::Result<()> {
+        show_name(rt, service)?;
+        show_text(rt, b": tried")?;
+        show_number(rt, self.tried_of(service))?;
+        show_text(rt, b", agreed")?;
+        show_number(rt, self.agreed_of(service))?;
+        show_text(rt, b", answered")?;
+        show_number(rt, self.answered_of(service))?;
+        show_text(rt, b"\n")
     }
 
     // The line of a refusal's number, for those that the services have.
-    fn show_refused(self, number: usize) {
+    fn show_refused(self, rt: &impl Print, number: usize) -> io::Result<()> {
         match number {
-            11..=18 | 21..=27 | 31..=32 => self.show_count(number),
-            _ => {}
+            11..=18 | 21..=27 | 31..=32 => self.show_count(rt, number),
+            _ => Ok(()),
         }
     }
 
-    fn show_count(self, number: usize) {
-        show_text(b"refused");
-        show_number(number);
-        show_text(b":");
+    fn show_count(self, rt: &impl Print, number: usize) -> io::Result<()> {
+        show_text(rt, b"refused")?;
+        show_number(rt, number)?;
+        show_text(rt, b":")?;
         if number < 33 {
-            show_number(self.refused[number]);
+            show_number(rt, self.refused[number])?;
         }
-        show_text(b"\n");
+        show_text(rt, b"\n")
     }
 
     // The line of how many differ.
-    fn show_differing(self) {
-        io::print_decimal(libc::STDOUT_FILENO, self.differ as u64);
-        show_text(b" of");
-        show_number(self.total());
-        show_text(b" differ\n");
+    fn show_differing(self, rt: &impl Print) -> io::Result<()> {
+        print!(rt; "{}", self.differ)?;
+        show_text(rt, b" of")?;
+        show_number(rt, self.total())?;
+        show_text(rt, b" differ\n")
     }
 
     // The line of a request whose answers differ.
-    fn show_different(self, i: usize) {
+    fn show_different(self, rt: &impl Print, i: usize) -> io::Result<()> {
         if i < 8 && i < self.differ {
-            show_name(self.services[i]);
-            show_text(b", table");
-            show_number(self.tables[i]);
-            show_text(b"\n");
+            show_name(rt, self.services[i])?;
+            show_text(rt, b", table")?;
+            show_number(rt, self.tables[i])?;
+            show_text(rt, b"\n")?;
         }
+        Ok(())
     }
 }
 
@@ -238,23 +243,22 @@ fn sum(a: usize, b: usize) -> usize {
 }
 
 // Bytes on standard output.
-fn show_text(bytes: &[u8]) {
-    io::write_all(libc::STDOUT_FILENO, bytes);
+fn show_text(rt: &impl Print, bytes: &[u8]) -> io::Result<()> {
+    rt.write_all(bytes)
 }
 
 // A space and a number.
-fn show_number(n: usize) {
-    show_text(b" ");
-    io::print_decimal(libc::STDOUT_FILENO, n as u64);
+fn show_number(rt: &impl Print, n: usize) -> io::Result<()> {
+    print!(rt; " {n}")
 }
 
 // The name of a service.
-fn show_name(service: usize) {
+fn show_name(rt: &impl Print, service: usize) -> io::Result<()> {
     match service {
-        0 => show_text(b"read"),
-        1 => show_text(b"score"),
-        2 => show_text(b"sweep"),
-        3 => show_text(b"filter"),
-        _ => show_text(b"search"),
+        0 => show_text(rt, b"read"),
+        1 => show_text(rt, b"score"),
+        2 => show_text(rt, b"sweep"),
+        3 => show_text(rt, b"filter"),
+        _ => show_text(rt, b"search"),
     }
 }
