@@ -1,6 +1,7 @@
 // The open lines of a search: their numbers, and in one array, by how many lines are unsettled when a line is the lowest of them, its
 // number, its kits and the ranks of its layer.
 #![tactic(auto)]
+
 mod columns;
 mod open;
 mod read;

@@ -24,7 +24,7 @@ pub fn write_lines(
     let mut i = 0;
     while i < count {
         let line = Choice::new(numbers[i]);
-        let at = position_at_lem(positions, line);
+        let at = position_at(positions, line);
         let x = at.number();
         let unsettled = count - i;
         lines[unsettled + OWN] = ends[x];
@@ -36,7 +36,7 @@ pub fn write_lines(
 }
 
 // The position of a choice. The positions are a table's, and so below 64.
-fn position_at_lem(positions: &[u8; 20], choice: Choice) -> Position
+fn position_at(positions: &[u8; 20], choice: Choice) -> Position
     requires { (choice.0 < 20) × (get_or positions.now choice.0 0 < 64) }
     ensures { result.0 ≡ get_or positions.now choice.0 0 }
 {
