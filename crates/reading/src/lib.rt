@@ -1,5 +1,6 @@
 // Reading a table file: the checks 11 to 18, 26 and 27, in the papers' order, each over the whole file before the next.
 #![tactic(auto)]
+
 mod answer;
 mod shape;
 
