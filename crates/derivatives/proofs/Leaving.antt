@@ -1,7 +1,7 @@
 -- Leaving one open line of a plan: at a record of its choice the value falls to what comes by the lo arc, and everywhere else a value still goes by the
 -- weights that the plan has with all open lines taken.
 -- Assumes of the table what checks 14, 17 and 18 find (`BoundedShares`, `Formed`, `Monotone`), where a law says so.
-use Prim.Native.Nat.{ℕ, zero, suc, ◌+◌, ◌-◌, ◌*◌, ◌≤◌, ◌<◌}
+use Prim.Native.Nat.{ℕ, zero, suc, ◌+◌, ◌*◌, ◌<◌}
 use native.Mathlib.Nat.{add-zero, add-sub_of_le}
 use native.Mathlib.Decide.{dec_lt}
 use native.Mathlib.Omega.{arith}
@@ -17,7 +17,7 @@ use Rattle.diagram.specs.Score.{is_taken}
 use Rattle.diagram.specs.Plans.{open_taken, is_open}
 use Rattle.diagram.specs.Validity.{Formed, BoundedShares, Monotone}
 use Rattle.diagram.proofs.Every.{both, and_true_both}
-use Rattle.weighing.specs.Value.{node_position, marks_from, value_from, value, variable_at, mark_at, high_weight, low_weight, low_arc}
+use Rattle.weighing.specs.Value.{node_position, marks_from, value_from, value, variable_at, mark_at, high_weight, low_weight}
 use Rattle.weighing.proofs.Values.{value_step}
 use Rattle.valuing.specs.Passes.{record_loss}
 use Rattle.valuing.proofs.Gaining.{weights-taken, weights-same, mark-number, low-le-high, value_taken, value-left}

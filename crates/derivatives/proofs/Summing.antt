@@ -13,7 +13,6 @@ use lib.ListN.{length, get_or, set, replicate, length-set, get_or-replicate}
 use lib.Seq.{get_or-set_same, get_or-set_other, ext_get_or}
 use lib.Dec.{eqb}
 use borrow.Author.Tests.{eq-eqb, ne_eqb}
-use Rattle.diagram.specs.Table.{sequence}
 use Rattle.diagram.proofs.Places.{sequence-length, sequence-at}
 use Rattle.derivatives.specs.Drops.{Lossy, loss_at, opens_at, loss_sum, loss_sums, Losing}
 

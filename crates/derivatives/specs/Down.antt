@@ -1,6 +1,6 @@
 -- The pass down the records: every node hands its weight on along its arcs in force, so that a node's weight is the sum over all paths that lead to it.
 -- Source document 000 has the path weight as (6.9) and (6.10); here it is a whole number.
-use Rattle.std.specs.Prelude.{ℕ, zero, suc, ◌+◌, ◌*◌, ◌≤◌, ◌<◌, ◌^◌, cond, List, length, get_or, set, eqb}
+use Rattle.std.specs.Prelude.{ℕ, zero, suc, ◌+◌, ◌*◌, ◌≤◌, ◌<◌, ◌^◌, cond, List, get_or, set, eqb}
 use Rattle.diagram.specs.Table.{Table}
 use Rattle.decoding.specs.Decoding.{root_at}
 use Rattle.weighing.specs.declared.roots.Roots.{Roots}

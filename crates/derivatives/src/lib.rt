@@ -1,5 +1,6 @@
 // The top and the drops of a plan, by one pass up and one pass down the records.
 #![tactic(auto)]
+
 mod down;
 mod drops;
 mod two_pass;
