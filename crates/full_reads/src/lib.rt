@@ -1,0 +1,22 @@
+// Reads that fill a buffer, whether the input comes whole or in pieces.
+#![tactic(auto)]
+
+ghost use Rattle.std.specs.Prelude.{◌≡◌, ◌≤◌, IfOk, length, take};
+
+use std::io::{self, Read};
+
+// Reads until the buffer is full or the input ends, and answers how many bytes it has put at the buffer's start. It reads on after
+// a short read, and asks for no more once the buffer is full.
+pub fn read_full<R: Read>(reader: &mut R, buffer: &mut [u8]) -> io::Result<usize>
+    ensures { IfOk result (λ n. (n ≤ length buffer.new) × (n ≡ length (take n buffer.new))) }
+{
+    let mut done = 0;
+    while done < buffer.len() {
+        let n = reader.read(&mut buffer[done..])?;
+        if n == 0 {
+            break;
+        }
+        done += n;
+    }
+    Ok(done)
+}
