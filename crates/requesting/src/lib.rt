@@ -1,5 +1,6 @@
 // The checks of a request: those of the file, and those of what comes with it, 21 to 25, as steps over the number of choices.
 #![tactic(auto)]
+
 mod plans;
 
 ghost use Rattle.std.specs.Prelude.{◌≡◌};
