@@ -1,5 +1,5 @@
 -- What the arrays of weights, cells and losses hold, and the arcs laid out.
-use Rattle.std.specs.Prelude.{ℕ, zero, suc, ◌+◌, ◌≤◌, ◌<◌, ◌≡◌, List, get_or, set, replicate}
+use Rattle.std.specs.Prelude.{ℕ, zero, suc, ◌≤◌, ◌<◌, ◌≡◌, List, get_or, set, replicate}
 use Rattle.std.proofs.lemmas.List.Edits.{sets}
 use Rattle.diagram.specs.Table.{sequence}
 use Rattle.arrays.specs.Arrays.{over}

@@ -1,5 +1,6 @@
 // A table laid out for a search from a plan, by value: made once, and searched as often as one likes.
 #![tactic(auto)]
+
 mod lay;
 mod weigh;
 
