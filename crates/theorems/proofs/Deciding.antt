@@ -101,6 +101,7 @@ module _ (q : Request) where
 no_first_reason : {q : Request} {rs : List Reason} {n i : ℕ} → NoReason q rs → FirstReason q rs n i → ⊥
 no_first_reason (passes_row p l) (at_first w f) = p _ w
 no_first_reason (passes_row p l) (further_on r t) = no_first_reason l t
+no_first_reason {q = q} {n = n} {i = i} no_row x3 = elim x3 [ ]
 
 -- reading answers an accepted table
 pub accepted-read : (s : List ℕ) → Accepted s → read_outcome s ≡ answered (reading s)
