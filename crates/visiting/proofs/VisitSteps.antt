@@ -75,15 +75,8 @@ not_twice false = refl
 
 -- one of two facts, by whether a bound is worth a visit
 module _ (x y : ℕ) {r : Bool} (e : r ≡ not (leb x y)) {P Q : Type 0} where
-  pub where_beaten : r ≡ true → P → (leb x y ≡ false → P) × (leb x y ≡ true → Q)
-  where_beaten t p = (λ f. p, λ f. absurd (false≢true (sym (ap not f) ∙ sym e ∙ t)))
-
   pub where_worth : r ≡ false → Q → (leb x y ≡ false → P) × (leb x y ≡ true → Q)
   where_worth t q = (λ f. absurd (false≢true (sym t ∙ e ∙ ap not f)), λ f. q)
-
--- a visit of arrays that are equal to those that it may be called with
-pub ready_same : {l : Layers} {losses lines best tally : List ℕ} {n room bound : ℕ} (cells marks : List ℕ) {cells' marks' : List ℕ} → cells' ≡ cells → marks' ≡ marks → ReadyAt l losses lines cells marks best tally n room bound → ReadyAt l losses lines cells' marks' best tally n room bound
-ready_same cells marks ec em ready = rw (ec, em) ready
 
 -- either of two arrays of a length has it
 either_long : (b : Bool) (y z : List ℕ) {k : ℕ} → length y ≡ k → length z ≡ k → length (cond b y z) ≡ k
@@ -100,10 +93,6 @@ module _ {g : Scene} {l : Layers} {losses lines cells marks best tally : List �
 
   counted-size : length tally₁ ≡ 3
   counted-size = rw (now, length-set tally 2 (get_or tally 2 0 + 1)) sizes.3
-
-  -- a finished plan may be kept
-  pub keep_ready : (length marks ≡ 20) × (length best ≡ 20) × (length tally₁ ≡ 3)
-  keep_ready = (sizes.1, sizes.2, counted-size)
 
   -- What the rule finds
   abbrev found : visits.Tally
