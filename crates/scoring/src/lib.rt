@@ -1,6 +1,7 @@
 // The score of a full plan: the weighted count of the settlings that lead to true, summed over the roots with their rewards, by one
 // pass up the records.
 #![tactic(auto)]
+
 mod answer;
 mod bound;
 
