@@ -1,12 +1,12 @@
 -- Check 17 by the positions in an array is the meaning's, where the array has the positions of the records before.
 -- Assumes nothing.
-use Prim.Native.Nat.{ℕ, ◌+◌, ◌<◌}
+use Prim.Native.Nat.{ℕ, ◌+◌}
 use native.Mathlib.Decide.{dec_lt}
 use native.Mathlib.Omega.{arith}
 use mathlib.Core.Path.{◌≡◌, refl}
 use mathlib.Core.Logic.{by_cases}
 use mathlib.Core.List.{List}
-use borrow.Author.Tests.{lt-ltb, le-ltb}
+use borrow.Author.Tests.{le-ltb}
 use Rattle.diagram.specs.Table.{Record}
 use Rattle.diagram.specs.Checks.{is_child, is_record_word}
 use Rattle.decoding.specs.Nodes.{Positioned}

@@ -14,11 +14,11 @@ use lib.Seq.{take_all}
 use lib.Dec.{eqb, leb}
 use borrow.Author.Tests.{ltb-false, leb-true, not-false}
 use Rattle.diagram.specs.Words.{word_at, kind, field_p, field_q, field_r}
-use Rattle.diagram.specs.Table.{Variable, choice, chance, variable_of, record_of, sequence, table_of, variable_count, record_count, choice_count, scale_of, scale}
+use Rattle.diagram.specs.Table.{Variable, choice, chance, variable_of, sequence, table_of, variable_count, record_count, choice_count, scale_of, scale}
 use Rattle.diagram.specs.Checks.{first_place, heading_fault, is_variable_word, variable_fault, choice_fault, scale_fault, is_monotone_at, place_zero, reward_fault}
 use Rattle.diagram.specs.Validity.{Formed, BoundedShares, no_shares, choice-shares, chance-shares, Monotone}
 use Rattle.diagram.proofs.Every.{both}
-use Rattle.diagram.proofs.Places.{sequence-length, none-at}
+use Rattle.diagram.proofs.Places.{none-at}
 use Rattle.diagram.proofs.Checked.{Passed}
 use Rattle.diagram.proofs.Implication.{implies-same}
 use Rattle.decoding.specs.Nodes.{Shaped}

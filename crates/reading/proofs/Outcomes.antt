@@ -11,7 +11,6 @@ use Rattle.diagram.specs.Services.{Outcome, refused, answered, checked, reading,
 use Rattle.diagram.proofs.Checked.{checked-passes, checked_stops, checked_end, checked-append, checked-answered, checked_refused, first, later, passed_among, Passed, read_passed, read-reading}
 use Rattle.terms.specs.declared.refusal.Refusal.{Refusal}
 use Rattle.decoding.specs.declared.table.Decoded.{Decoded}
-use Rattle.decoding.specs.Nodes.{Shaped}
 use Rattle.decoding.specs.Decoding.{table_in, Held, Sound, empty_table}
 use Rattle.decoding.proofs.Choosing.{variables-length}
 use Rattle.decoding.proofs.Shape.{heading-variables, heading-records, records-length, shaped-formed}

@@ -4,9 +4,9 @@
 use Prim.Native.Nat.{ℕ}
 use mathlib.Core.Path.{◌≡◌, refl, ap, sym, ◌∙◌}
 use mathlib.Core.Option.{none}
-use mathlib.Core.List.{List, [], ◌∷◌}
+use mathlib.Core.List.{List}
 use Rattle.diagram.specs.Checks.{length_fault, heading_fault, count_fault, variable_fault, choice_fault, record_fault, root_fault, heading_checks, variable_checks, scale_checks, record_checks, reward_checks}
-use Rattle.diagram.specs.Services.{Outcome, answered, reading}
+use Rattle.diagram.specs.Services.{answered, reading}
 use Rattle.diagram.proofs.Checked.{first, later}
 use Rattle.steps.specs.declared.verdict.Fault.{Fault}
 use Rattle.steps.specs.declared.verdict.Bounded.{Bounded}

@@ -1,11 +1,9 @@
-use Prim.Native.Nat.{ℕ, ◌+◌, ◌-◌}
+use Prim.Native.Nat.{◌+◌, ◌-◌}
 use native.Mathlib.Omega.{arith}
 use mathlib.Core.Path.{◌≡◌, ap, ◌∙◌}
-use mathlib.Core.Bool.{Bool, not}
-use mathlib.Core.List.{List}
-use Rattle.diagram.specs.Words.{word_at}
+use mathlib.Core.Bool.{not}
 use Rattle.diagram.specs.Table.{variable_count}
-use Rattle.diagram.specs.Checks.{is_variable_word, variable_fault}
+use Rattle.diagram.specs.Checks.{variable_fault}
 use Rattle.diagram.proofs.Places.{place-start, place_here, place-next, place_end}
 use Rattle.steps.specs.Steps.{fault_of}
 use Rattle.checking.proofs.variables.variable_fault.Invariants.{wrong}

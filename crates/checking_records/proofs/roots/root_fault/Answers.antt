@@ -1,12 +1,11 @@
-use Prim.Native.Nat.{ℕ, ◌+◌, ◌-◌}
+use Prim.Native.Nat.{ℕ, ◌+◌}
 use native.Mathlib.Omega.{arith}
 use mathlib.Core.Path.{◌≡◌, refl, ap, ◌∙◌}
-use mathlib.Core.Bool.{Bool, not}
+use mathlib.Core.Bool.{not}
 use mathlib.Core.Option.{some}
 use mathlib.Core.List.{List}
-use Rattle.diagram.specs.Words.{word_at}
-use Rattle.diagram.specs.Table.{variable_count, record_count, root_count}
-use Rattle.diagram.specs.Checks.{root_fault, is_root_word}
+use Rattle.diagram.specs.Table.{root_count}
+use Rattle.diagram.specs.Checks.{root_fault}
 use Rattle.diagram.proofs.Places.{place-start, place_here, place-next, place_end}
 use Rattle.steps.specs.declared.verdict.Fault.TheVariants.{At}
 use Rattle.steps.specs.Steps.{fault_of}
