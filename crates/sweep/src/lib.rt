@@ -1,5 +1,6 @@
 // The sweep: the top of a plan, and the drop of each choice.
 #![tactic(auto)]
+
 mod answer;
 
 ghost use Rattle.std.specs.Prelude.{◌≡◌, ◌≤◌, length, take};
