@@ -1,5 +1,6 @@
 // The filter, which one sweep decides: the lines that a percentage forces.
 #![tactic(auto)]
+
 mod answer;
 mod forced;
 
