@@ -42,6 +42,7 @@ pub fn take_open(marks: &[u8; 64]) -> [u8; 64]
 }
 
 // A mark, with an open line taken.
+#[tactic(auto, unfolding(crate::specs::Passes::taken_mark))]
 fn taken_mark(mark: u8) -> u8
     ensures { result ≡ taken_mark mark }
 {
@@ -83,6 +84,7 @@ pub fn mark_at(marks: &[u8; 64], at: Position) -> u8
 }
 
 // The weight of a hi arc under a mark: 0 where the line is left.
+#[tactic(auto, unfolding(crate::specs::Passes::high_in_force))]
 fn high_weight(mark: u8, arc: u64) -> u64
     ensures { result ≡ high_in_force mark arc }
 {
@@ -90,6 +92,7 @@ fn high_weight(mark: u8, arc: u64) -> u64
 }
 
 // The weight of a lo arc under a mark: 0 where the line is taken.
+#[tactic(auto, unfolding(crate::specs::Passes::low_in_force))]
 fn low_weight(mark: u8, arc: u64) -> u64
     ensures { result ≡ low_in_force mark arc }
 {
