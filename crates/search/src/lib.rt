@@ -1,5 +1,6 @@
 // The search: the first candidate in the ranking, found by the visits of document 01's rule.
 #![tactic(auto)]
+
 mod answer;
 mod explore;
 
