@@ -1,5 +1,6 @@
 // A request answered by the planner and by the counter, and what comes of it.
 #![tactic(auto)]
+
 use agreement::{Tally, same_marks, same_numbers};
 use counter::Verdict;
 use filtering::FilterAnswer;

@@ -1,122 +1,132 @@
 // What the services answer, written to standard output for the program `cases`.
 #![tactic(auto)]
+
 use filtering::FilterAnswer;
 use opened::{Opening, State};
 use reading::ReadAnswer;
 use scoring::ScoreAnswer;
 use search::SearchAnswer;
+use std::io;
 use sweep::SweepAnswer;
 use terms::Refusal;
 
 // Bytes on standard output.
-pub fn show_text(bytes: &[u8]) {
-    io::write_all(libc::STDOUT_FILENO, bytes);
+pub fn show_text(rt: &impl Print, bytes: &[u8]) -> io::Result<()> {
+    rt.write_all(bytes)
 }
 
 // A space and a number.
-fn show_number(n: u64) {
-    show_text(b" ");
-    io::print_decimal(libc::STDOUT_FILENO, n);
+fn show_number(rt: &impl Print, n: u64) -> io::Result<()> {
+    print!(rt; " {n}")
 }
 
 // Numbers, each after a space.
-pub fn show_numbers(numbers: &[u64]) {
+pub fn show_numbers(rt: &impl Print, numbers: &[u64]) -> io::Result<()> {
     let mut i = 0;
     while i < numbers.len() {
-        show_number(numbers[i]);
+        show_number(rt, numbers[i])?;
         i += 1;
     }
+    Ok(())
 }
 
 // A space and a mark.
-fn show_mark(mark: u8) {
-    show_number(mark as u64);
+fn show_mark(rt: &impl Print, mark: u8) -> io::Result<()> {
+    show_number(rt, mark as u64)
 }
 
 // Marks, each after a space.
-pub fn show_marks(marks: &[u8]) {
+pub fn show_marks(rt: &impl Print, marks: &[u8]) -> io::Result<()> {
     let mut i = 0;
     while i < marks.len() {
-        show_mark(marks[i]);
+        show_mark(rt, marks[i])?;
         i += 1;
     }
+    Ok(())
 }
 
-pub fn show_reading(answer: ReadAnswer) {
+pub fn show_reading(rt: &impl Print, answer: ReadAnswer) -> io::Result<()> {
     match answer {
-        ReadAnswer::Table(t) => show_table(t.variables, t.records, t.choices, t.scale),
-        ReadAnswer::Refused(r) => show_refusal(r),
+        ReadAnswer::Table(t) => show_table(rt, t.variables, t.records, t.choices, t.scale),
+        ReadAnswer::Refused(r) => show_refusal(rt, r),
     }
 }
 
-pub fn show_opening(opening: Opening) {
+pub fn show_opening(rt: &impl Print, opening: Opening) -> io::Result<()> {
     let state = opening.state;
     match state {
         State::Accepted => {
             show_table(
+                rt,
                 opening.variables,
                 opening.records,
                 opening.choices,
                 opening.scale,
             )
         }
-        State::Refused(r) => show_refusal(r),
+        State::Refused(r) => show_refusal(rt, r),
     }
 }
 
 // V, N, the number of choices and B of a table.
-fn show_table(variables: usize, records: usize, choices: usize, scale: u64) {
-    show_text(b" table");
-    show_number(variables as u64);
-    show_number(records as u64);
-    show_number(choices as u64);
-    show_number(scale);
+fn show_table(
+    rt: &impl Print,
+    variables: usize,
+    records: usize,
+    choices: usize,
+    scale: u64,
+) -> io::Result<()> {
+    show_text(rt, b" table")?;
+    show_number(rt, variables as u64)?;
+    show_number(rt, records as u64)?;
+    show_number(rt, choices as u64)?;
+    show_number(rt, scale)
 }
 
-pub fn show_score(answer: ScoreAnswer) {
+pub fn show_score(rt: &impl Print, answer: ScoreAnswer) -> io::Result<()> {
     match answer {
         ScoreAnswer::Score(x) => {
-            show_text(b" score");
-            show_number(x);
+            show_text(rt, b" score")?;
+            show_number(rt, x)
         }
-        ScoreAnswer::Refused(r) => show_refusal(r),
+        ScoreAnswer::Refused(r) => show_refusal(rt, r),
     }
 }
 
-pub fn show_sweep(answer: SweepAnswer) {
+pub fn show_sweep(rt: &impl Print, answer: SweepAnswer) -> io::Result<()> {
     match answer {
         SweepAnswer::Bound(x) => {
-            show_text(b" top");
-            show_number(x);
+            show_text(rt, b" top")?;
+            show_number(rt, x)
         }
-        SweepAnswer::Refused(r) => show_refusal(r),
+        SweepAnswer::Refused(r) => show_refusal(rt, r),
     }
 }
 
-pub fn show_filter(answer: FilterAnswer) {
+pub fn show_filter(rt: &impl Print, answer: FilterAnswer) -> io::Result<()> {
     match answer {
         FilterAnswer::Forced(n) => {
-            show_text(b" forced");
-            show_number(n as u64);
+            show_text(rt, b" forced")?;
+            show_number(rt, n as u64)
         }
-        FilterAnswer::Refused(r) => show_refusal(r),
+        FilterAnswer::Refused(r) => show_refusal(rt, r),
     }
 }
 
-pub fn show_search(answer: SearchAnswer) {
+pub fn show_search(rt: &impl Print, answer: SearchAnswer) -> io::Result<()> {
     match answer {
         SearchAnswer::Found(f) => {
-            show_text(b" score");
-            show_number(f.score);
-            show_text(b" visits");
-            show_number(f.visits);
+            show_text(rt, b" score")?;
+            show_number(rt, f.score)?;
+            show_text(rt, b" visits")?;
+            show_number(rt, f.visits)
         }
-        SearchAnswer::Refused(r) => show_refusal(r),
+        SearchAnswer::Refused(r) => show_refusal(rt, r),
     }
 }
 
-fn show_refusal(r: Refusal) {
-    show_text(b" refused");
-    show_number(r.number as u64);
-    show_number(r.place as u64);
+fn show_refusal(rt: &impl Print, r: Refusal) -> io::Result<()> {
+    show_text(rt, b" refused")?;
+    show_number(rt, r.number as u64)?;
+    show_number(rt, r.place as u64)
 }

@@ -7,62 +7,72 @@
 // A line without a colon is written back as it is. With an upper-case letter (R, S, W, F, P) the file is opened, and the
 // service asked of the opened table.
 #![tactic(auto)]
+
 use case_answers::show_text;
 use case_lines::Line;
 use case_runs::run;
+use full_reads::read_full;
+use std::io;
 
-fn main() {
+fn main(rt: HostRuntime) -> io::Result<()> {
     let mut file = [0u8; 1400];
     let mut plan = [0u8; 40];
     let mut chunk = [0u8; 4096];
     let mut line = Line::new();
     let mut turns: usize = 100000;
     while turns > 0 {
-        let n = io::read_full(libc::STDIN_FILENO, &mut chunk);
+        let n = read_full(&mut rt.reader(), &mut chunk)?;
         if n == 0 {
-            return;
+            return Ok(());
         }
-        line = feed(line, &chunk[..n], &mut file, &mut plan);
+        line = feed(&rt, line, &chunk[..n], &mut file, &mut plan)?;
         turns -= 1;
     }
+    Ok(())
 }
 
 // Takes some bytes of the input.
-fn feed(line: Line, bytes: &[u8], file: &mut [u8], plan: &mut [u8]) -> Line {
+fn feed(
+    rt: &impl Print,
+    line: Line,
+    bytes: &[u8],
+    file: &mut [u8],
+    plan: &mut [u8],
+) -> io::Result<Line> {
     let mut now = line;
     let mut i = 0;
     while i < bytes.len() {
-        now = step(now, bytes[i], file, plan);
+        now = step(rt, now, bytes[i], file, plan)?;
         i += 1;
     }
-    now
+    Ok(now)
 }
 
 // Takes one byte of the input. The end of a line runs its case.
-fn step(line: Line, b: u8, file: &mut [u8], plan: &mut [u8]) -> Line {
+fn step(rt: &impl Print, line: Line, b: u8, file: &mut [u8], plan: &mut [u8]) -> io::Result<Line> {
     if line.part == Line::LABEL {
-        show_text(&[b]);
-        return line.labelled(b);
+        show_text(rt, &[b])?;
+        return Ok(line.labelled(b));
     }
     if b == b'\n' {
-        end(line, file, plan);
-        return Line::new();
+        end(rt, line, file, plan)?;
+        return Ok(Line::new());
     }
     if line.part == Line::SERVICE {
-        return line.named(b);
+        return Ok(line.named(b));
     }
     if line.part == Line::FILE {
-        return line.digit(b, file);
+        return Ok(line.digit(b, file));
     }
     if line.part == Line::PLAN {
-        return line.mark(b, plan);
+        return Ok(line.mark(b, plan));
     }
-    line.number(b)
+    Ok(line.number(b))
 }
 
 // Runs the case of a line on the parts of the buffers that it has filled.
-fn end(line: Line, file: &[u8], plan: &[u8]) {
+fn end(rt: &impl Print, line: Line, file: &[u8], plan: &[u8]) -> io::Result<()> {
     let n = line.length(file);
     let m = line.plan_length(plan);
-    run(line, &file[..n], &plan[..m]);
+    run(rt, line, &file[..n], &plan[..m])
 }

@@ -4,22 +4,24 @@
 // Every table comes from a seed, its number. What is printed is a line for each service and for each number of a refusal, and at
 // the end whether all agree.
 #![tactic(auto)]
+
 use agreement::Tally;
 use asked_twice::on_file;
 use made_damage::damaged;
 use made_files::{draw, fork};
 use made_tables::{ladder, table, wide};
+use std::io;
 
 const TABLES: usize = 10000;
 
-fn main() {
+fn main(rt: HostRuntime) -> io::Result<()> {
     let mut tally = Tally::new();
     let mut seed = 0;
     while seed < TABLES {
         tally = on_table(tally, seed);
         seed += 1;
     }
-    tally.show();
+    tally.show(&rt)
 }
 
 // Makes the table of a seed, and tries every service on it.

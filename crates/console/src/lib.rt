@@ -2,11 +2,15 @@
 // or the refusal. `plan` and the programs named after it are this function, each run on an input of its own. No contract can say
 // what is read and written; all that stands between is `printout::print_read`.
 #![tactic(auto)]
-pub fn run() {
+
+use full_reads::read_full;
+use std::io;
+
+pub fn run(rt: &(impl Input + Print)) -> io::Result<()> {
     let mut input = [0u8; 1329];
-    let n = io::read_full(libc::STDIN_FILENO, &mut input);
+    let n = read_full(&mut rt.reader(), &mut input)?;
     let text = printout::print_read(&input, n);
     let bytes = text.bytes;
     let count = text.count;
-    io::write_all(libc::STDOUT_FILENO, &bytes[..count]);
+    rt.write_all(&bytes[..count])
 }

@@ -1,5 +1,8 @@
 // The program `plan`, run on a job that asks for 100 percent of a link made of certain events (tests/make_limits.py).
 #![tactic(auto)]
-fn main() {
-    console::run();
+
+use std::io;
+
+fn main(rt: HostRuntime) -> io::Result<()> {
+    console::run(&rt)
 }

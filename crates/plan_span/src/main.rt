@@ -1,5 +1,8 @@
 // The program `plan`, run on a job of 1,000 kits, and a table of 60 variables and 254 records whose lines take 201 to 501 (tests/make_limits.py).
 #![tactic(auto)]
-fn main() {
-    console::run();
+
+use std::io;
+
+fn main(rt: HostRuntime) -> io::Result<()> {
+    console::run(&rt)
 }
