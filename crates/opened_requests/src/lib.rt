@@ -1,6 +1,7 @@
 // Requests on a file: each opens it and asks a service of the opened table. Parameters and answers hold no opened table, so
 // that the prover covers a caller.
 #![tactic(auto)]
+
 ghost use Rattle.std.specs.Prelude.{◌≡◌, suc, ◌+◌, ◌≤◌, ◌^◌, length};
 ghost use Rattle.diagram.specs.Plans.{open_count};
 ghost use Rattle.diagram.specs.Services.{read_outcome, score_outcome, sweep_outcome, sweep_buffer, filter_outcome, filter_buffer, search_outcome, search_buffer};
