@@ -1,6 +1,7 @@
 // The five services for programs in other languages: functions over numbers and byte slices. A result is 0 where the request
 // is answered, and else the refusal's number, with its place written. What is not written is left as it was.
 #![tactic(auto)]
+
 ghost use Rattle.std.specs.Prelude.{◌≡◌, length};
 ghost use Rattle.diagram.specs.Services.{read_outcome, score_outcome, sweep_outcome, sweep_buffer, filter_outcome, filter_buffer, search_outcome, search_buffer};
 ghost use Rattle.export.specs.Numbers.{number_of, place_of, value_of};
