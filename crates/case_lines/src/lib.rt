@@ -1,6 +1,7 @@
 // A line of the input of the program `cases`, taken byte by byte: the file and the plan go to lent buffers, the numbers to the
 // line itself.
 #![tactic(auto)]
+
 ghost use Rattle.std.specs.Prelude.{◌≤◌, length};
 
 // A line of the input, as far as it has come.
