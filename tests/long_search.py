@@ -1,5 +1,5 @@
 #!/usr/bin/env python3
-"""Writes a job whose search is the longest found, to the file named: target/bin/plan searches it in 2,097,151 visits.
+"""Writes a job whose search is the longest found, to the file named: crates/plan/out/plan searches it in 2,097,151 visits.
 
 Every record stands for the event of the last variable, so that all plans score the same and no branch is cut. Of the 20 lines 19 come first; all records
 but two lie in the layer of the last line, which a quarter of the visits pass: its own nodes, and others that lead to these. The root leads to three of them.

@@ -3,7 +3,7 @@
 # The gate does not run it: a program there has one file for its input, and no pipe on which to wait.
 set -eu
 cd "$(dirname "$0")/.."
-plan=target/bin/plan
+plan=crates/plan/out/plan
 job=crates/plan/stdin
 (head -c 3 $job; sleep 0.2; tail -c +4 $job | head -c 10; sleep 0.2; tail -c +14 $job) | $plan | cmp - crates/plan/stdout
 mkfifo "${TMPDIR:-/tmp}/plan.$$"
