@@ -9,13 +9,12 @@ mkdir -p $out
 set -- "$@" ''
 
 # printer TREE NAME: the printer's `put_decimal` as NAME_decimal. No crate exports it: in a tree that is a copy it is marked as exported, and
-# its crate, writing or in older trees printout, proved again and made a static library.
+# its crate, writing, proved again and made a static library.
 printer() {
-    decimal=$(grep -l '^pub fn put_decimal' "$1"/crates/*/src/decimal.rt)
-    crate=$(basename "${decimal%/src/decimal.rt}")
-    sed -i 's/^pub fn put_decimal/#[no_mangle]\npub extern "C" fn put_decimal/' "$decimal"
-    (cd "$1" && rt staticlib "$crate" >/dev/null)
-    objcopy --redefine-sym put_decimal="$2_decimal" "$1/target/staticlib/lib$crate.a" "$out/lib$2_printer.a"
+    sed -i 's/^pub fn put_decimal/#[unsafe(no_mangle)]\npub extern "C" fn put_decimal/' "$1/crates/writing/src/decimal.rt"
+    sed -i 's/^writing:/writing staticlib:/' "$1/crates.txt"
+    (cd "$1/crates/writing" && rt lib >/dev/null)
+    objcopy --redefine-sym put_decimal="$2_decimal" "$1/crates/writing/out/libwriting.a" "$out/lib$2_printer.a"
 }
 
 # placed ARCHIVE NAME ARRAY: the library four times, as NAME0 to NAME3, each 16 bytes further in a line of 64, since a time hangs on where a loop stands in
@@ -59,20 +58,19 @@ R
 if [ "$1" = --before ]; then
     rm -rf $out/before && mkdir $out/before
     git archive "$2" | tar -x -C $out/before
-    (cd $out/before && rt staticlib export >/dev/null)
-    placed $out/before/target/staticlib/libexport.a before BEFORE
+    (cd $out/before/crates/export && rt lib >/dev/null)
+    placed $out/before/crates/export/out/libexport.a before BEFORE
     printer $out/before before
     flags="$flags --cfg before -l static=before_printer"
     shift 2
 else
     echo 'pub static BEFORE: [Placed; 0] = [];' >>$out/placed.rs
 fi
-rt staticlib export >/dev/null
-placed target/staticlib/libexport.a library LIBRARY
-rm -rf $out/copy && mkdir -p $out/copy/target
-cp -r crates.txt crates $out/copy
-cp -r target/rlib target/stamp $out/copy/target
+(cd crates/export && rt lib >/dev/null)
+placed crates/export/out/libexport.a library LIBRARY
+rm -rf $out/copy && mkdir $out/copy
+tar -c --exclude=out crates crates.txt | tar -x -C $out/copy
 printer $out/copy library
 rm -rf $out/copy
-rustc --edition 2024 -C opt-level=3 -C codegen-units=1 --check-cfg 'cfg(before)' $flags -o $out/bench -L $out -L target/staticlib -l static=library_printer -l static=export bench/main.rs
+rustc --edition 2024 -C opt-level=3 -C codegen-units=1 --check-cfg 'cfg(before)' $flags -o $out/bench -L $out -L crates/export/out -l static=library_printer -l static=export bench/main.rs
 $out/bench ${1:-200000}
