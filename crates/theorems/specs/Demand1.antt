@@ -30,7 +30,7 @@ pub data Judged (q : Request) (reasons : List Reason) {Answer : Type 0} (refuse 
   refuses : (number place : ℕ) → FirstReason q reasons number place → answer ≡ refuse (record { number = number; place = place }) → Judged q reasons refuse Served answer
   serves : NoReason q reasons → Served answer → Judged q reasons refuse Served answer
 
--- "a turned_away request leaves the plan and the drops as they were": the buffer that is written. The plan handed in is lent to be read alone.
+-- "a turned-away request leaves the plan and the drops as they were": the buffer that is written. The plan handed in is lent to be read alone.
 abbrev pub LeavesBuffer : {Answer : Type 0} → (refuse : Refusal → Answer) → (answer : Answer) → (held after : List ℕ) → Type 0
 LeavesBuffer refuse answer held after = (r : Refusal) → answer ≡ refuse r → after ≡ held
 

@@ -63,7 +63,7 @@ pub record SearchHolds (file plan : List ℕ) (budget percent : ℕ) (held : Lis
   pub finds : (f : Finding) → answer ≡ Found f → FirstCandidate file plan budget percent written × (f.score ≡ score (table_of file) written)
   -- "32 is returned if there is no such plan, and only then"
   pub refuses : (answer ≡ refused_32) ↔ NoCandidate file plan budget percent
-  -- and, of demand 1, "a turned_away request leaves the plan and the drops as they were"
+  -- and, of demand 1, "a turned-away request leaves the plan and the drops as they were"
   pub untouched : answer ≡ refused_32 → written ≡ held
 
 -- Demand 2, of every accepted table. What is called the score here is the weighted count. "The score of a full plan is the weighted count of chance outcomes

@@ -34,7 +34,7 @@ pub record FilterHolds (file plan : List ℕ) (percent : ℕ) (held : List ℕ) 
   pub size : length written ≡ length plan
   -- "the filter returns 31 exactly when no way of settling the open lines passes"
   pub refuses : (answer ≡ refused_31) ↔ NonePasses file plan percent
-  -- and, of demand 1, "a turned_away request leaves the plan and the drops as they were"
+  -- and, of demand 1, "a turned-away request leaves the plan and the drops as they were"
   pub untouched : answer ≡ refused_31 → written ≡ held
   -- "Otherwise the plan it writes has an open line taken exactly when no passing way leaves it"
   pub takes : (NonePasses file plan percent → ⊥) → (i : ℕ) → Open plan i → (get_or written i 0 ≡ 1) ↔ NoneLeaves file plan percent i
