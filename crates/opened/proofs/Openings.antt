@@ -9,7 +9,13 @@ use Rattle.reading.specs.declared.answer.ReadAnswer.{ReadAnswer}
 use Rattle.reading.specs.Answer.{outcome_of}
 use Rattle.opened.specs.declared.table.State.TheVariants.{Accepted, Refused}
 use Rattle.opened.specs.declared.table.Opening.{Opening}
+use Rattle.opened.specs.declared.table.Table.{Table}
 use Rattle.opened.specs.Answer.{state_of, opening_of, opening_for}
+
+-- the opening that an opened table has in it
+abbrev pub opening_in : Table → Opening
+opening_in t =
+    record { variables = t.variables; records = t.records; choices = t.choices; scale = t.scale; state = t.state }
 
 -- an opening promises an outcome
 abbrev pub Opens : Opening → Outcome Reading → Type 0

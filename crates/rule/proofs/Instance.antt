@@ -1,6 +1,6 @@
 -- The visit rule of document 01 is the rule over its own terms, and these terms are bounding.
 -- Assumes of the table what checks 17 and 18 find: `Formed` and `Monotone`.
-use Prim.Native.Nat.{ℕ, zero, suc, ◌-◌, ◌≤◌, ◌<◌}
+use Prim.Native.Nat.{ℕ, zero, suc, ◌-◌, ◌*◌, ◌≤◌, ◌<◌}
 use native.Mathlib.Nat.{le_refl}
 use native.Mathlib.Omega.{arith}
 use mathlib.Core.Path.{◌≡◌, refl}

@@ -1,6 +1,8 @@
 -- `put_mark` meets its contract: the number, the word of the mark and the newline stand one after the other. Assumes nothing.
 use Prim.Native.Nat.{◌+◌, ◌≤◌}
 use native.Mathlib.Omega.{arith}
+use mathlib.Core.Path.{◌∙◌}
+use mathlib.Core.Logic.{⊎_elim}
 use mathlib.Core.List.{◌++◌}
 use Rattle.diagram.specs.Printout.{decimal, take_word, left_word, line}
 use Rattle.writing.specs.Wrote.{Wrote}

@@ -1,6 +1,6 @@
 -- `put_decimal` meets its contract. The loop's invariant: from the place of the first digit on the room has the digits that come after those of what is left.
 -- The measure is what is left. Assumes nothing.
-use Prim.Native.Nat.{◌≤◌}
+use Prim.Native.Nat.{◌-◌, ◌≤◌}
 use mathlib.Core.Path.{◌≡◌}
 use Rattle.writing.proofs.Digits.{Tail}
 use Rattle.writing.proofs.decimal.put_decimal.Given as goal

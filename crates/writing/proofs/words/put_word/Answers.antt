@@ -1,3 +1,4 @@
+use Prim.Native.Nat.{◌-◌}
 use native.Mathlib.Omega.{arith}
 use mathlib.Core.Path.{refl}
 use Rattle.writing.proofs.Writes.{writing_start, writing_next, writing_end}
