@@ -1,4 +1,4 @@
-// An opened table: a struct that refers to the handed_in bytes and copies none of them, and each service on it. A service hands
+// An opened table: a struct that refers to the handed-in bytes and copies none of them, and each service on it. A service hands
 // the bytes to the function of the same name over slices, which makes every check itself.
 #![tactic(auto)]
 
