@@ -10,7 +10,8 @@ use terms::Node;
 use weighing::Roots;
 
 // Hands the path weights of the first n records' nodes on to their children, the last one first, along the arcs in force. Those to
-// begin with may be any that stay within their budget.
+// begin with may be any that stay within their budget. `two_passes` begins with what comes to an accepted table's roots: times the
+// product of b from each node's position on it comes to B, which is at most 2^56.
 pub fn pass_down<'a>(
     n: usize,
     high: &'a [u8; 256],
@@ -29,7 +30,8 @@ pub fn pass_down<'a>(
     }
 }
 
-// Adds what comes to the roots to the path weights of their nodes. The sums fit.
+// Adds what comes to the roots to the path weights of their nodes. The sums fit: `two_passes` hands in zeros and the roots of an
+// accepted table, which bring at most B.
 pub fn enter(roots: Roots, paths: &mut [u64; 256])
     requires fits { (roots.count ≤ 16) × ((i : ℕ) → i < roots.count → RootFits roots paths.old i) }
     requires sizes { length paths.old ≡ 256 }

@@ -9,8 +9,9 @@ use decoding::{Decoded, position_of};
 use terms::{Node, Plan, Position};
 use valuing::{loss_of, mark_at};
 
-// What leaving each open line would lose, by position, and 0 at every other position: the losses of its nodes, each times the node's
-// path weight. No loss is below zero, and the sums fit.
+// What leaving each open line would lose, by position, and 0 at every other position: the losses of its nodes, each times the
+// node's path weight. No loss is below zero, and the sums fit: `two_passes` hands in the values and the path weights of an accepted
+// table with all open lines taken, so that each sum is a drop, and no more than the top.
 pub fn drops_by_position(
     table: Decoded,
     marks: &[u8; 64],
@@ -46,7 +47,8 @@ fn lose(drops: &mut [u64; 64], at: Position, x: u64)
     drops[i] = drops[i] + x;
 }
 
-// The cells of the first n choices' positions, by choice number; the cells after the last choice are 0.
+// The cells of the first n choices' positions, by choice number; the cells after the last choice are 0. `two_passes` hands in the
+// choices of an accepted table: at most 20, at positions below 64.
 pub fn by_choice(n: usize, positions: &[u8; 20], cells: &[u64; 64]) -> [u64; 20]
     requires { (n ≤ 20) × ((i : ℕ) → i < n → get_or positions.now i 0 < 64) }
     ensures { result ≡ over (sequence (λ (i : ℕ). get_or cells.now (get_or positions.now i 0) 0) 0 n) (replicate 20 0) }

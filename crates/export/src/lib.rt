@@ -14,8 +14,7 @@ use sweep::{SweepAnswer, sweep};
 use terms::Refusal;
 
 // Reads a table: V, N, the number of choices and B.
-#[unsafe(no_mangle)]
-pub extern "C" fn jigbalo_read(
+pub fn jigbalo_read(
     file: &[u8],
     place: &mut u64,
     variables: &mut u64,
@@ -42,8 +41,7 @@ pub extern "C" fn jigbalo_read(
 }
 
 // The score of a full plan.
-#[unsafe(no_mangle)]
-pub extern "C" fn jigbalo_score(file: &[u8], plan: &[u8], place: &mut u64, score: &mut u64) -> u64
+pub fn jigbalo_score(file: &[u8], plan: &[u8], place: &mut u64, score: &mut u64) -> u64
     ensures result { result ≡ number_of (score_outcome file.now plan.now) }
     ensures place { place.new ≡ place_of (score_outcome file.now plan.now) place.old }
     ensures score { score.new ≡ value_of (λ a. a) (score_outcome file.now plan.now) score.old }
@@ -58,8 +56,7 @@ pub extern "C" fn jigbalo_score(file: &[u8], plan: &[u8], place: &mut u64, score
 }
 
 // The top of a plan, with the drop of each choice written to the buffer.
-#[unsafe(no_mangle)]
-pub extern "C" fn jigbalo_sweep(
+pub fn jigbalo_sweep(
     file: &[u8],
     plan: &[u8],
     drops: &mut [u64],
@@ -81,8 +78,7 @@ pub extern "C" fn jigbalo_sweep(
 }
 
 // How many lines the percentage forces, with the plan that takes them written to the buffer.
-#[unsafe(no_mangle)]
-pub extern "C" fn jigbalo_filter(
+pub fn jigbalo_filter(
     file: &[u8],
     plan: &[u8],
     percent: u32,
@@ -105,8 +101,7 @@ pub extern "C" fn jigbalo_filter(
 }
 
 // The score of the first candidate and the visits, with its marks written to the buffer.
-#[unsafe(no_mangle)]
-pub extern "C" fn jigbalo_search(
+pub fn jigbalo_search(
     file: &[u8],
     plan: &[u8],
     kits: u32,

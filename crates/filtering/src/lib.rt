@@ -28,8 +28,7 @@ pub fn filter(file: &[u8], plan: &[u8], percent: u32, out: &mut [u8]) -> FilterA
         ReadAnswer::Table(numbers) => numbers,
         ReadAnswer::Refused(r) => return FilterAnswer::Refused(r),
     };
-    let t = found.table;
-    let swept = two_passes(t, plan);
+    let swept = two_passes(found.table, plan);
     let least = least_passing(percent, numbers.scale);
     if !passes(least, swept.bound) {
         return FilterAnswer::Refused(Refusal {

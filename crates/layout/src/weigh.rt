@@ -19,7 +19,7 @@ pub struct LaidArcs {
     pub arcs: [u64; 1040],
 }
 
-// The weights of the roots' arcs, each what comes to the root. There are at most 16.
+// The weights of the roots' arcs, each what comes to the root. There are at most 16: `lay_arcs` hands in an accepted table's.
 pub fn weigh_roots(roots: Roots, weights: &mut [u64; 544])
     requires { (roots.count ≤ 16) × (length weights.old ≡ 544) }
     ensures { weights.new ≡ brought_by roots weights.old }
@@ -31,7 +31,8 @@ pub fn weigh_roots(roots: Roots, weights: &mut [u64; 544])
     }
 }
 
-// The cells of the arcs of the first n nodes of the order, by the arcs' numbers; every other number has the cell of the roots' arcs.
+// The cells of the arcs of the first n nodes of the order, by the arcs' numbers; every other number has the cell of the roots'
+// arcs. `lay_arcs` hands in the order of an accepted table's nodes, as `order_records` leaves it.
 pub fn number_cells(n: usize, order: &[u16; 1040]) -> [u16; 544]
     requires { (n ≤ 254) × NodesWithin n order.now }
     ensures { result ≡ arc_cells order.now n }
@@ -80,7 +81,8 @@ pub fn pick_arcs(n: usize, listed: Joined, cells: &[u16; 544], weights: &[u64; 5
     made
 }
 
-// By rank the losses of the first n nodes of the order, from those by node; zeros after.
+// By rank the losses of the first n nodes of the order, from those by node; zeros after. `arrange` hands in the order of an
+// accepted table's nodes, as `order_records` leaves it.
 pub fn losses_by_rank(n: usize, order: &[u16; 1040], losses: &[u64; 256]) -> [u64; 256]
     requires { (n ≤ 254) × NodesWithin n order.now }
     ensures { result ≡ by_rank order.now losses.now n }

@@ -25,9 +25,8 @@ pub fn score(file: &[u8], plan: &[u8]) -> ScoreAnswer
         ReadAnswer::Table(numbers) => numbers,
         ReadAnswer::Refused(r) => return ScoreAnswer::Refused(r),
     };
-    let t = found.table;
     match check_full_plan(plan, numbers.choices) {
-        Verdict::Passes => ScoreAnswer::Score(upper_bound(t, plan)),
+        Verdict::Passes => ScoreAnswer::Score(upper_bound(found.table, plan)),
         Verdict::Refused(r) => ScoreAnswer::Refused(r),
     }
 }

@@ -23,8 +23,7 @@ pub fn sweep(file: &[u8], plan: &[u8], drops: &mut [u64]) -> SweepAnswer
     if let ReadAnswer::Refused(r) = answer {
         return SweepAnswer::Refused(r);
     }
-    let t = found.table;
-    let swept = two_passes(t, plan);
+    let swept = two_passes(found.table, plan);
     let numbers = swept.drops;
     copy(&numbers, drops);
     SweepAnswer::Bound(swept.bound)

@@ -46,7 +46,8 @@ pub fn value_plan(
     }
 }
 
-// The sum, over the roots, of what comes to a root times its node's value. It fits, and there are at most 16 roots.
+// The sum, over the roots, of what comes to a root times its node's value. It fits, and there are at most 16 roots: `value_plan`
+// hands in those of an accepted table and the values under a plan, and the sum is a score, no more than B.
 pub fn root_sum(roots: Roots, values: &[u64; 256]) -> u64
     requires { (roots.count ≤ 16) × (root_sum roots values.now roots.count ≤ 2 ^ 56) }
     ensures { result ≡ root_sum roots values.now roots.count }
