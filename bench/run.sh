@@ -1,5 +1,5 @@
 #!/bin/sh
-# Proves the crates export and writing and makes their static libraries, builds the benchmark over them, and runs it.
+# Proves the crates export_c and writing and makes their static libraries, builds the benchmark over them, and runs it.
 # bench/run.sh [--before COMMIT] [REQUESTS]: a commit's libraries are made too, and timed beside the others; the number is that of the requests
 # to compare.
 set -eu
@@ -58,19 +58,20 @@ R
 if [ "$1" = --before ]; then
     rm -rf $out/before && mkdir $out/before
     git archive "$2" | tar -x -C $out/before
-    (cd $out/before/crates/export && rt lib >/dev/null)
-    placed $out/before/crates/export/out/libexport.a before BEFORE
+    (cd $out/before/crates/export_c && rt lib >/dev/null)
+    placed $out/before/crates/export_c/out/libexport_c.a before BEFORE
     printer $out/before before
     flags="$flags --cfg before -l static=before_printer"
     shift 2
 else
     echo 'pub static BEFORE: [Placed; 0] = [];' >>$out/placed.rs
 fi
-(cd crates/export && rt lib >/dev/null)
-placed crates/export/out/libexport.a library LIBRARY
+(cd crates/export_c && rt lib >/dev/null)
+cp crates/export_c/out/libexport_c.a $out/libexport.a
+placed $out/libexport.a library LIBRARY
 rm -rf $out/copy && mkdir $out/copy
 tar -c --exclude=out crates crates.txt | tar -x -C $out/copy
 printer $out/copy library
 rm -rf $out/copy
-rustc --edition 2024 -C opt-level=3 -C codegen-units=1 --check-cfg 'cfg(before)' $flags -o $out/bench -L $out -L crates/export/out -l static=library_printer -l static=export bench/main.rs
+rustc --edition 2024 -C opt-level=3 -C codegen-units=1 --check-cfg 'cfg(before)' $flags -o $out/bench -L $out -l static=library_printer -l static=export bench/main.rs
 $out/bench ${1:-200000}

@@ -1,4 +1,4 @@
-/* Jigbalo's five services, as the crate export has them.
+/* Jigbalo's five services, as the crate export_c exports them.
 
    A function returns 0 where the request is answered, and writes its values; else it returns the refusal's number of document 01 or
    02 and writes its place. Whatever is not written is left as it was, every buffer of a refused request included.

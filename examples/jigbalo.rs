@@ -1,4 +1,4 @@
-//! Safe functions over the static library of the crate `export`, whose functions ask nothing of a caller but what slices
+//! Safe functions over the static library of the crate `export_c`, whose functions ask nothing of a caller but what slices
 //! and exclusive references are.
 
 /// Why a request is turned away: the number and place of documents 01 and 02.
