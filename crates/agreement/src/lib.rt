@@ -1,8 +1,10 @@
-// Whether two planners agree: what they write compared, how many of their answers are the same, and what is printed of it.
+// How many answers of two planners agree, and what is printed of it.
 #![tactic(auto)]
 
-mod buffers;
+mod refused;
+mod service;
 mod tally;
 
-pub use buffers::{same_marks, same_numbers};
+pub use refused::Refused;
+pub use service::Service;
 pub use tally::Tally;

@@ -1,15 +1,10 @@
 // A request answered by the planner and by the counter, and what comes of it.
 #![tactic(auto)]
 
-use agreement::{Tally, same_marks, same_numbers};
-use counter::Verdict;
-use filtering::FilterAnswer;
-use made_files::{Marks, least};
-use reading::ReadAnswer;
-use scoring::ScoreAnswer;
-use search::SearchAnswer;
-use sweep::SweepAnswer;
-use terms::Refusal;
+use agreement::{Refused, Service, Tally};
+use counter::{Found, Reading};
+use reading::Summary;
+use search::Finding;
 
 // What comes with a file and a plan: the table's number, the size of the lent buffer, the kits and the percentage.
 #[derive(Clone, Copy)]
@@ -20,123 +15,101 @@ pub struct Asked {
     pub percent: u32,
 }
 
-pub fn read_twice(tally: Tally, table: usize, file: &[u8]) -> Tally {
-    let ours = of_read(reading::read(file));
-    let theirs = counter::read(file);
-    tally.with(Tally::READ, table, ours, theirs, true)
+pub fn read_twice(tally: &mut Tally, table: usize, file: &[u8]) {
+    let ours = reading::read(file).map(summary).map_err(refused);
+    let theirs = counter::read(file).map_err(Refused::from);
+    tally.count(Service::Read, table, ours, theirs, true);
 }
 
-pub fn score_twice(tally: Tally, table: usize, file: &[u8], plan: &[u8]) -> Tally {
-    let ours = of_score(scoring::score(file, plan));
-    let theirs = counter::score(file, plan);
-    tally.with(Tally::SCORE, table, ours, theirs, true)
+pub fn score_twice(tally: &mut Tally, table: usize, file: &[u8], plan: &[u8]) {
+    let ours = scoring::score(file, plan).map_err(refused);
+    let theirs = counter::score(file, plan).map_err(Refused::from);
+    tally.count(Service::Score, table, ours, theirs, true);
 }
 
-pub fn sweep_twice(tally: Tally, asked: Asked, file: &[u8], plan: &[u8]) -> Tally {
-    let mut mine = [18446744073709551615u64; 24];
-    let mut other = [18446744073709551615u64; 24];
-    let n = least(asked.size, 24);
-    let ours = of_sweep(sweep::sweep(file, plan, &mut mine[..n]));
-    let theirs = counter::sweep(file, plan, &mut other[..n]);
-    tally.with(
-        Tally::SWEEP,
-        asked.table,
-        ours,
-        theirs,
-        same_numbers(&mine, &other),
-    )
+pub fn sweep_twice(tally: &mut Tally, asked: Asked, file: &[u8], plan: &[u8]) {
+    lend_twice(
+        tally,
+        Service::Sweep,
+        asked,
+        [u64::MAX; 24],
+        |drops| sweep::sweep(file, plan, drops).map_err(refused),
+        |drops| counter::sweep(file, plan, drops).map_err(Refused::from),
+    );
 }
 
-pub fn filter_twice(tally: Tally, asked: Asked, file: &[u8], plan: &[u8]) -> Tally {
-    let lent = Marks::untouched(asked.size);
-    let n = lent.length();
-    let mut mine = lent.marks;
-    let mut other = lent.marks;
-    let ours = of_filter(filtering::filter(file, plan, asked.percent, &mut mine[..n]));
-    let theirs = counter::filter(file, plan, asked.percent, &mut other[..n]);
-    tally.with(
-        Tally::FILTER,
-        asked.table,
-        ours,
-        theirs,
-        same_marks(&mine, &other),
-    )
+pub fn filter_twice(tally: &mut Tally, asked: Asked, file: &[u8], plan: &[u8]) {
+    let percent = asked.percent;
+    lend_twice(
+        tally,
+        Service::Filter,
+        asked,
+        [7; 32],
+        |out| filtering::filter(file, plan, percent, out)
+            .map(|n| n as u64)
+            .map_err(refused),
+        |out| counter::filter(file, plan, percent, out).map_err(Refused::from),
+    );
 }
 
-pub fn search_twice(tally: Tally, asked: Asked, file: &[u8], plan: &[u8]) -> Tally {
-    let lent = Marks::untouched(asked.size);
-    let n = lent.length();
-    let mut mine = lent.marks;
-    let mut other = lent.marks;
-    let ours = of_search(search::search(file, plan, asked.kits, asked.percent, &mut mine[..n]));
-    let theirs = counter::search(file, plan, asked.kits, asked.percent, &mut other[..n]);
-    tally.with(
-        Tally::SEARCH,
-        asked.table,
-        ours,
-        theirs,
-        same_marks(&mine, &other),
-    )
+pub fn search_twice(tally: &mut Tally, asked: Asked, file: &[u8], plan: &[u8]) {
+    let Asked { kits, percent, .. } = asked;
+    lend_twice(
+        tally,
+        Service::Search,
+        asked,
+        [7; 32],
+        |out| search::search(file, plan, kits, percent, out)
+            .map(finding)
+            .map_err(refused),
+        |out| counter::search(file, plan, kits, percent, out).map_err(Refused::from),
+    );
 }
 
-fn of_read(answer: ReadAnswer) -> Verdict {
-    match answer {
-        ReadAnswer::Table(t) => answered(
-            t.variables as u64,
-            t.records as u64,
-            t.choices as u64,
-            t.scale,
-        ),
-        ReadAnswer::Refused(r) => refused(r),
+// Lends each planner a buffer of its own, and counts what the two answer and write.
+fn lend_twice<B, T, F, G, const N: usize>(
+    tally: &mut Tally,
+    service: Service,
+    asked: Asked,
+    buffer: [B; N],
+    ours: F,
+    theirs: G,
+)
+where
+    B: PartialEq + Copy,
+    T: PartialEq + Copy,
+    F: FnOnce(&mut [B]) -> Result<T, Refused>,
+    G: FnOnce(&mut [B]) -> Result<T, Refused>,
+    requires ours { F.IsAlwaysCallable ours }
+    requires theirs { G.IsAlwaysCallable theirs }
+{
+    let n = asked.size.min(N);
+    let mut mine = buffer;
+    let mut other = buffer;
+    let first = ours(&mut mine[..n]);
+    let second = theirs(&mut other[..n]);
+    tally.count(service, asked.table, first, second, mine == other);
+}
+
+fn summary(of: Summary) -> Reading {
+    Reading {
+        variables: of.variables as u64,
+        records: of.records as u64,
+        choices: of.choices as u64,
+        scale: of.scale,
     }
 }
 
-fn of_score(answer: ScoreAnswer) -> Verdict {
-    match answer {
-        ScoreAnswer::Score(x) => answered(x, 0, 0, 0),
-        ScoreAnswer::Refused(r) => refused(r),
+fn finding(of: Finding) -> Found {
+    Found {
+        score: of.score,
+        visits: of.visits,
     }
 }
 
-fn of_sweep(answer: SweepAnswer) -> Verdict {
-    match answer {
-        SweepAnswer::Bound(x) => answered(x, 0, 0, 0),
-        SweepAnswer::Refused(r) => refused(r),
-    }
-}
-
-fn of_filter(answer: FilterAnswer) -> Verdict {
-    match answer {
-        FilterAnswer::Forced(n) => answered(n as u64, 0, 0, 0),
-        FilterAnswer::Refused(r) => refused(r),
-    }
-}
-
-fn of_search(answer: SearchAnswer) -> Verdict {
-    match answer {
-        SearchAnswer::Found(f) => answered(f.score, f.visits, 0, 0),
-        SearchAnswer::Refused(r) => refused(r),
-    }
-}
-
-fn answered(first: u64, second: u64, third: u64, fourth: u64) -> Verdict {
-    Verdict {
-        number: 0,
-        place: 0,
-        first,
-        second,
-        third,
-        fourth,
-    }
-}
-
-fn refused(r: Refusal) -> Verdict {
-    Verdict {
-        number: r.number as u64,
-        place: r.place as u64,
-        first: 0,
-        second: 0,
-        third: 0,
-        fourth: 0,
+fn refused(of: terms::Refusal) -> Refused {
+    Refused {
+        number: usize::from(u8::from(of.reason)),
+        place: of.place,
     }
 }

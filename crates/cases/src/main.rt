@@ -8,71 +8,42 @@
 // service asked of the opened table.
 #![tactic(auto)]
 
-use case_answers::show_text;
 use case_lines::Line;
 use case_runs::run;
 use full_reads::read_full;
 use std::io;
 
 fn main(rt: HostRuntime) -> io::Result<()> {
-    let mut file = [0u8; 1400];
-    let mut plan = [0u8; 40];
     let mut chunk = [0u8; 4096];
     let mut line = Line::new();
-    let mut turns: usize = 100000;
-    while turns > 0 {
+    for _ in 0..100000 {
         let n = read_full(&mut rt.reader(), &mut chunk)?;
         if n == 0 {
-            return Ok(());
+            break;
         }
-        line = feed(&rt, line, &chunk[..n], &mut file, &mut plan)?;
-        turns -= 1;
+        feed(&rt, &mut line, &chunk[..n])?;
     }
     Ok(())
 }
 
 // Takes some bytes of the input.
-fn feed(
-    rt: &impl Print,
-    line: Line,
-    bytes: &[u8],
-    file: &mut [u8],
-    plan: &mut [u8],
-) -> io::Result<Line> {
-    let mut now = line;
-    let mut i = 0;
-    while i < bytes.len() {
-        now = step(rt, now, bytes[i], file, plan)?;
-        i += 1;
+fn feed(rt: &impl Print, line: &mut Line, bytes: &[u8]) -> io::Result<()> {
+    for b in bytes {
+        step(rt, line, *b)?;
     }
-    Ok(now)
+    Ok(())
 }
 
 // Takes one byte of the input. The end of a line runs its case.
-fn step(rt: &impl Print, line: Line, b: u8, file: &mut [u8], plan: &mut [u8]) -> io::Result<Line> {
-    if line.part == Line::LABEL {
-        show_text(rt, &[b])?;
-        return Ok(line.labelled(b));
+fn step(rt: &impl Print, line: &mut Line, b: u8) -> io::Result<()> {
+    if line.in_label() {
+        rt.write_all(&[b])?;
+        line.push(b);
+    } else if b == b'\n' {
+        run(rt, line)?;
+        *line = Line::new();
+    } else {
+        line.push(b);
     }
-    if b == b'\n' {
-        end(rt, line, file, plan)?;
-        return Ok(Line::new());
-    }
-    if line.part == Line::SERVICE {
-        return Ok(line.named(b));
-    }
-    if line.part == Line::FILE {
-        return Ok(line.digit(b, file));
-    }
-    if line.part == Line::PLAN {
-        return Ok(line.mark(b, plan));
-    }
-    Ok(line.number(b))
-}
-
-// Runs the case of a line on the parts of the buffers that it has filled.
-fn end(rt: &impl Print, line: Line, file: &[u8], plan: &[u8]) -> io::Result<()> {
-    let n = line.length(file);
-    let m = line.plan_length(plan);
-    run(rt, line, &file[..n], &plan[..m])
+    Ok(())
 }

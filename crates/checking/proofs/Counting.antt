@@ -15,7 +15,7 @@ use Rattle.diagram.specs.Table.{Variable, choice, chance, variable_of, is_choice
 use Rattle.diagram.specs.Checks.{first_place}
 use Rattle.diagram.proofs.Places.{sequence-at, place-start, place_here, place-next, place_end}
 use Rattle.decoding.proofs.Choosing.{is-choice-kind, variables-length}
-use Rattle.steps.specs.declared.verdict.Fault.TheVariants.{Nowhere}
+use Rattle.std.specs.Prelude.{Ok}
 use Rattle.steps.specs.Steps.{bounded_by}
 
 -- ---------------------------------------------------------------------------
@@ -115,7 +115,7 @@ module _ (number : List Variable → ℕ) (limit : ℕ) (s : List ℕ) where
     prefix_above h l = i.place ∙ place_here (above number limit s) 1 (variable_count s) p h (lt-ltb _ _ l)
 
     -- all variables within it
-    pub prefix_end : variable_count s ≤ p → record { fault = Nowhere; value = x } ≡ bounded_by (first_place (above number limit s) 1 (variable_count s)) (number (table_of s).variables)
+    pub prefix_end : variable_count s ≤ p → Ok x ≡ bounded_by (first_place (above number limit s) 1 (variable_count s)) (number (table_of s).variables)
     unfolding bounded_by
     prefix_end h =
         let all : length (table_of s).variables ≤ p = omega (arith, variables-length s) in

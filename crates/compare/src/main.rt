@@ -16,21 +16,23 @@ const TABLES: usize = 10000;
 
 fn main(rt: HostRuntime) -> io::Result<()> {
     let mut tally = Tally::new();
-    let mut seed = 0;
-    while seed < TABLES {
-        tally = on_table(tally, seed);
-        seed += 1;
+    for seed in 0..TABLES {
+        on_table(&mut tally, seed);
     }
-    tally.show(&rt)
+    print!(rt; "{tally}")
 }
 
 // Makes the table of a seed, and tries every service on it.
-fn on_table(tally: Tally, seed: usize) -> Tally {
-    let way = draw(seed, 1, 8);
-    match way {
-        0 => on_file(tally, seed, 1, wide(fork(seed, 2))),
-        1..=3 => on_file(tally, seed, 1, damaged(table(fork(seed, 3)), fork(seed, 4))),
-        4 => on_file(tally, seed, 4, ladder(fork(seed, 6))),
-        _ => on_file(tally, seed, 4, table(fork(seed, 3))),
+fn on_table(tally: &mut Tally, seed: usize) {
+    match draw(seed, 1, 8) {
+        0 => on_file(tally, seed, 1, &wide(fork(seed, 2))),
+        1..=3 => on_file(
+            tally,
+            seed,
+            1,
+            &damaged(table(fork(seed, 3)), fork(seed, 4)),
+        ),
+        4 => on_file(tally, seed, 4, &ladder(fork(seed, 6))),
+        _ => on_file(tally, seed, 4, &table(fork(seed, 3))),
     }
 }

@@ -10,7 +10,5 @@ pub fn run(rt: &(impl Input + Print)) -> io::Result<()> {
     let mut input = [0u8; 1329];
     let n = read_full(&mut rt.reader(), &mut input)?;
     let text = printout::print_read(&input, n);
-    let bytes = text.bytes;
-    let count = text.count;
-    rt.write_all(&bytes[..count])
+    rt.write_all(text.as_bytes())
 }

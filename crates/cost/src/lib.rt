@@ -1,7 +1,7 @@
 // What a plan costs.
 #![tactic(auto)]
 
-ghost use Rattle.std.specs.Prelude.{◌≡◌, ◌<◌, ◌≤◌, length};
+ghost use Rattle.std.specs.Prelude.{◌≡◌, ◌≤◌, length};
 ghost use Rattle.diagram.specs.Plans.{cost_of};
 
 use terms::Plan;
@@ -11,21 +11,12 @@ pub fn cost_of(plan: &[u8], kits: &[u16; 20]) -> u64
     requires { length plan.now ≤ 20 }
     ensures { result ≡ cost_of kits.now plan.now }
 {
-    let n = plan.len();
-    let mut cost = 0;
-    let mut i = 0;
-    while i < n {
-        if plan[i] == Plan::TAKEN {
-            cost += wide(kits[i]);
-        }
-        i += 1;
-    }
-    cost
-}
-
-// A line's kits, as a number to be added up or counted down.
-pub fn wide(kits: u16) -> u64
-    ensures { (result ≡ kits) × (result < 65536) }
-{
-    kits as u64
+    plan.iter()
+        .zip(kits)
+        .map(|(mark, kits)| if *mark == Plan::TAKEN {
+            u64::from(*kits)
+        } else {
+            0
+        })
+        .sum()
 }

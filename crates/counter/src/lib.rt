@@ -8,136 +8,83 @@
 #![tactic(auto)]
 
 mod checks;
+mod refusal;
 
-use checks::{Asked, check, check_table};
-use counter_plans::{
-    Marks, best_of, forced_by, full_marks, marks_of, passing, top_of, visits_of, write_drops,
-    write_marks,
-};
-use counter_scores::{decode, score_of, size};
+use checks::{check_buffer, check_kits, check_percent, checked_plan, checked_table};
+use counter_plans::{Limits, Plan};
+pub use refusal::{Check, Refusal};
 
-// What a service answers: the refusal's number and place, both 0 where the request is answered, and
-// the values, each 0 where there is none.
-#[derive(Clone, Copy)]
-pub struct Verdict {
-    pub number: u64,
-    pub place: u64,
-    pub first: u64,
-    pub second: u64,
-    pub third: u64,
-    pub fourth: u64,
+// V, N, the number of choices and B.
+#[derive(Clone, Copy, PartialEq, Eq)]
+pub struct Reading {
+    pub variables: u64,
+    pub records: u64,
+    pub choices: u64,
+    pub scale: u64,
 }
 
-fn refused(number: u64, place: u64) -> Verdict {
-    Verdict {
-        number,
-        place,
-        first: 0,
-        second: 0,
-        third: 0,
-        fourth: 0,
-    }
+// The score of the best candidate, and the visits of the search.
+#[derive(Clone, Copy, PartialEq, Eq)]
+pub struct Found {
+    pub score: u64,
+    pub visits: u64,
 }
 
-fn answered(first: u64, second: u64, third: u64, fourth: u64) -> Verdict {
-    Verdict {
-        number: 0,
-        place: 0,
-        first,
-        second,
-        third,
-        fourth,
-    }
+pub fn read(file: &[u8]) -> Result<Reading, Refusal> {
+    let table = checked_table(file)?;
+    Ok(Reading {
+        variables: table.variables(),
+        records: table.records(),
+        choices: table.choices(),
+        scale: table.scale(),
+    })
 }
 
-// The values: V, N, the number of choices and B.
-pub fn read(file: &[u8]) -> Verdict {
-    let words = decode(file);
-    check_table(file.len(), &words)
+// The score of a full plan.
+pub fn score(file: &[u8], marks: &[u8]) -> Result<u64, Refusal> {
+    let table = checked_table(file)?;
+    let plan = checked_plan(&table, marks, 1)?;
+    Ok(table.score_of(plan.taken))
 }
 
-// The value: the score of a full plan.
-pub fn score(file: &[u8], plan: &[u8]) -> Verdict {
-    let words = decode(file);
-    let asked = Asked {
-        least: 1,
-        percent: 0,
-        kits: 0,
-        lent: plan.len(),
-    };
-    let checked = check(file, &words, plan, asked);
-    if checked.number != 0 {
-        return checked;
-    }
-    let marks = marks_of(plan);
-    answered(score_of(&words, marks.taken), 0, 0, 0)
+// The top. The drops are written.
+pub fn sweep(file: &[u8], marks: &[u8], drops: &mut [u64]) -> Result<u64, Refusal> {
+    let table = checked_table(file)?;
+    let plan = checked_plan(&table, marks, 0)?;
+    check_buffer(drops.len(), marks)?;
+    plan.write_drops(drops);
+    Ok(plan.top())
 }
 
-// The value: the top. The drops are written.
-pub fn sweep(file: &[u8], plan: &[u8], drops: &mut [u64]) -> Verdict {
-    let words = decode(file);
-    let asked = Asked {
-        least: 0,
-        percent: 0,
-        kits: 0,
-        lent: drops.len(),
-    };
-    let checked = check(file, &words, plan, asked);
-    if checked.number != 0 {
-        return checked;
-    }
-    let marks = marks_of(plan);
-    write_drops(&words, marks, drops);
-    answered(top_of(&words, marks), 0, 0, 0)
+// The number of forced lines. The plan is written with these taken.
+pub fn filter(file: &[u8], marks: &[u8], percent: u32, out: &mut [u8]) -> Result<u64, Refusal> {
+    let table = checked_table(file)?;
+    let plan = checked_plan(&table, marks, 0)?;
+    check_percent(percent)?;
+    check_buffer(out.len(), marks)?;
+    let forced = plan.forced(percent).ok_or(Check::Passing.refusal())?;
+    plan.taking(forced).write(out);
+    Ok(forced.len())
 }
 
-// The value: the number of forced lines. The plan is written with these taken.
-pub fn filter(file: &[u8], plan: &[u8], percent: u32, out: &mut [u8]) -> Verdict {
-    let words = decode(file);
-    let asked = Asked {
-        least: 0,
-        percent,
-        kits: 0,
-        lent: out.len(),
-    };
-    let checked = check(file, &words, plan, asked);
-    if checked.number != 0 {
-        return checked;
-    }
-    let marks = marks_of(plan);
-    let seen = passing(&words, marks, percent);
-    if !seen.any {
-        return refused(31, 0);
-    }
-    let forced = forced_by(&words, marks, seen);
-    write_marks(
-        out,
-        Marks {
-            taken: marks.taken | forced,
-            left: marks.left,
-        },
-    );
-    answered(size(forced), 0, 0, 0)
-}
-
-// The values: score and visits. The best candidate is written.
-pub fn search(file: &[u8], plan: &[u8], kits: u32, percent: u32, out: &mut [u8]) -> Verdict {
-    let words = decode(file);
-    let asked = Asked {
-        least: 0,
-        percent,
-        kits,
-        lent: out.len(),
-    };
-    let checked = check(file, &words, plan, asked);
-    if checked.number != 0 {
-        return checked;
-    }
-    let marks = marks_of(plan);
-    let best = best_of(&words, marks, kits, percent);
-    if !best.held {
-        return refused(32, 0);
-    }
-    write_marks(out, full_marks(&words, best.full));
-    answered(best.score, visits_of(&words, marks, kits, percent), 0, 0)
+// The best candidate is written.
+pub fn search(
+    file: &[u8],
+    marks: &[u8],
+    kits: u32,
+    percent: u32,
+    out: &mut [u8],
+) -> Result<Found, Refusal> {
+    let table = checked_table(file)?;
+    let plan = checked_plan(&table, marks, 0)?;
+    check_percent(percent)?;
+    check_kits(kits)?;
+    check_buffer(out.len(), marks)?;
+    let limits = Limits { kits, percent };
+    let best = plan.best(limits).ok_or(Check::Candidate.refusal())?;
+    Plan::full(&table, best.full).write(out);
+    Ok(Found {
+        score: best.score,
+        visits: plan.visits(limits),
+    })
 }

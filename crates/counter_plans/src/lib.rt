@@ -2,11 +2,9 @@
 // (`counter`).
 #![tactic(auto)]
 
-mod plans;
+mod candidate;
+mod plan;
 mod visits;
 
-pub use plans::{
-    Marks, best_of, forced_by, full_marks, mark_at, marks_of, passing, top_of, write_drops,
-    write_marks,
-};
-pub use visits::visits_of;
+pub use candidate::Candidate;
+pub use plan::{Limits, Plan};

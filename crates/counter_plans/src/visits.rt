@@ -1,53 +1,67 @@
 // The visits of the search, by the visit rule as it is written, with each score counted afresh.
-use crate::plans::{
-    Best, Marks, cost_of, drop_of, first_of, lowest_open, marked, none_held, top_of,
-};
-use counter_scores::{add, choices, passes, sub};
+use crate::candidate::Candidate;
+use crate::plan::{Limits, Plan};
+use counter_scores::Set;
 
-pub fn visits_of(words: &[u64; 331], marks: Marks, kits: u32, percent: u32) -> u64 {
-    let best = visit(words, marks, kits, percent, 20, none_held());
-    best.visits
+// The search so far: the best plan, if one is held, and the visits made.
+#[derive(Clone, Copy)]
+struct Search {
+    limits: Limits,
+    best: Option<Candidate>,
+    visits: u64,
 }
 
-// One visit and those after it, with at most `room` lines open.
-fn visit(words: &[u64; 331], marks: Marks, kits: u32, percent: u32, room: u64, held: Best) -> Best {
-    let best = counted(held);
-    if goes_back(words, marks, kits, percent, best) {
-        return best;
+impl<'a> Plan<'a> {
+    pub fn visits(self, limits: Limits) -> u64 {
+        let mut search = Search {
+            limits,
+            best: None,
+            visits: 0,
+        };
+        search.visit(self, 20);
+        search.visits
     }
-    let d = lowest_open(words, marks);
-    if d == choices(words) {
-        return first_of(words, best, top_of(words, marks), marks.taken);
+}
+
+impl Search {
+    // One visit and those after it, with at most `room` lines open.
+    fn visit(&mut self, plan: Plan<'_>, room: u64) {
+        self.visits = self.visits.saturating_add(1);
+        if self.goes_back(plan) {
+            return;
+        }
+        let Some(d) = plan.lowest_open() else {
+            self.hold(Candidate::of(plan.table, plan.taken));
+            return;
+        };
+        if room == 0 {
+            return;
+        }
+        self.visit(plan.taking(Set::only(d)), room - 1);
+        if self.goes_left(plan, d) {
+            self.visit(plan.leaving(Set::only(d)), room - 1);
+        }
     }
-    if room == 0 {
-        return best;
+
+    // Holds the one that ranks first of the best plan and another.
+    fn hold(&mut self, other: Candidate) {
+        self.best = Some(self.best.map_or(other, |best| best.first(other)));
     }
-    let next = visit(words, marked(marks, d, 1), kits, percent, room - 1, best);
-    if !goes_left(words, marks, percent, d, next) {
-        return next;
+
+    // Whether a visit goes back: the lines taken cost more than the kits, or the top does not serve.
+    fn goes_back(&self, plan: Plan<'_>) -> bool {
+        u64::from(self.limits.kits) < plan.table.cost_of(plan.taken)
+            || !self.serves(plan, plan.top())
     }
-    visit(words, marked(marks, d, 2), kits, percent, room - 1, next)
-}
 
-fn counted(best: Best) -> Best {
-    let mut next = best;
-    next.visits = add(best.visits, 1);
-    next
-}
+    // Whether d is to be left too: the top less d's drop serves.
+    fn goes_left(&self, plan: Plan<'_>, d: u64) -> bool {
+        self.serves(plan, plan.top().saturating_sub(plan.drop_of(d)))
+    }
 
-// Whether a visit goes back: the lines taken cost more than the kits, or the top does not serve.
-fn goes_back(words: &[u64; 331], marks: Marks, kits: u32, percent: u32, best: Best) -> bool {
-    (kits as u64) < cost_of(words, marks.taken)
-        || !serves(words, top_of(words, marks), percent, best)
-}
-
-// Whether d is to be left too: the top less d's drop serves.
-fn goes_left(words: &[u64; 331], marks: Marks, percent: u32, d: u64, best: Best) -> bool {
-    let rest = sub(top_of(words, marks), drop_of(words, marks, d));
-    serves(words, rest, percent, best)
-}
-
-// Whether a score passes and is not less than that of the best plan, if one is held.
-fn serves(words: &[u64; 331], score: u64, percent: u32, best: Best) -> bool {
-    passes(words, score, percent) && !(best.held && score < best.score)
+    // Whether a score passes and is not less than that of the best plan, if one is held.
+    fn serves(&self, plan: Plan<'_>, score: u64) -> bool {
+        plan.table.passes(score, self.limits.percent)
+            && self.best.is_none_or(|best| best.score <= score)
+    }
 }

@@ -1,166 +1,146 @@
-// The words of a table, and what they say.
-use crate::numbers::{add, mul, sub};
-
-// The byte at i, 0 past the end.
-fn byte_at(file: &[u8], i: usize) -> u64 {
-    if i < file.len() { wide(file[i]) } else { 0 }
-}
-
-fn wide(byte: u8) -> u64 {
-    byte as u64
-}
-
-// Word i of the file, its highest byte first.
-fn word_of(file: &[u8], i: usize) -> u64 {
-    if 331 <= i {
-        return 0;
-    }
-    let a = byte_at(file, 4 * i);
-    let b = byte_at(file, 4 * i + 1);
-    let c = byte_at(file, 4 * i + 2);
-    let d = byte_at(file, 4 * i + 3);
-    (a << 24) | (b << 16) | (c << 8) | d
-}
+use crate::set::Set;
+use crate::word::{Kind, Word};
+use std::ops::Range;
 
 // All words that a file can have, 0 past its end.
-pub fn decode(file: &[u8]) -> [u64; 331] {
-    let mut words = [0u64; 331];
-    let mut i: usize = 0;
-    while i < 331 {
-        words[i] = word_of(file, i);
-        i += 1;
-    }
-    words
-}
-
-// A word by its kind and fields.
 #[derive(Clone, Copy)]
-pub struct Word {
-    pub kind: u64,
-    pub p: u64,
-    pub q: u64,
-    pub r: u64,
-}
-
-// The word at a place; 0 past the end.
-pub fn word_at(words: &[u64; 331], place: u64) -> Word {
-    let at = place as usize;
-    let raw = if at < 331 { words[at] } else { 0 };
-    Word {
-        kind: raw >> 28,
-        p: (raw >> 22) % 64,
-        q: (raw >> 11) % 2048,
-        r: raw % 2048,
-    }
-}
-
-// V.
-pub fn variables(words: &[u64; 331]) -> u64 {
-    word_at(words, 0).p
-}
-
-// N.
-pub fn records(words: &[u64; 331]) -> u64 {
-    word_at(words, 0).q
-}
-
-// The word of the variable at position v.
-pub fn variable(words: &[u64; 331], v: u64) -> Word {
-    word_at(words, add(v, 1))
-}
-
-// The place of the record that is a node. The first record is node 2, and stands after the heading
-// and the variables.
-pub fn place_of(words: &[u64; 331], node: u64) -> u64 {
-    sub(add(variables(words), node), 1)
-}
-
-// The record that is a node.
-pub fn record(words: &[u64; 331], node: u64) -> Word {
-    word_at(words, place_of(words, node))
-}
-
-// How many of the first n variables are choices.
-pub fn choices_below(words: &[u64; 331], n: u64) -> u64 {
-    let mut count: u64 = 0;
-    let mut v: u64 = 0;
-    while v < n {
-        if variable(words, v).kind == 2 {
-            count = add(count, 1);
-        }
-        v += 1;
-    }
-    count
-}
-
-pub fn choices(words: &[u64; 331]) -> u64 {
-    choices_below(words, variables(words))
-}
-
-// The product of b over the first n variables.
-pub fn scale_below(words: &[u64; 331], n: u64) -> u64 {
-    let mut product: u64 = 1;
-    let mut v: u64 = 0;
-    while v < n {
-        let word = variable(words, v);
-        if word.kind == 3 {
-            product = mul(product, word.r);
-        }
-        v += 1;
-    }
-    product
+pub struct Table {
+    words: [u32; 331],
 }
 
 // The reward of a root, and its node.
 #[derive(Clone, Copy)]
-pub struct Root {
+pub(crate) struct Root {
     pub reward: u64,
     pub node: u64,
 }
 
-// The number of root words, R.
-pub fn root_words(words: &[u64; 331]) -> u64 {
-    word_at(words, 0).r
-}
-
-// The place of root word i, after the records.
-pub fn root_place(words: &[u64; 331], i: u64) -> u64 {
-    add(add(1, i), add(variables(words), records(words)))
-}
-
-// The number of roots: without root words there is one.
-pub fn roots(words: &[u64; 331]) -> u64 {
-    let count = root_words(words);
-    if count == 0 { 1 } else { count }
-}
-
-// Root i: that of its word or, without root words, the last record with reward 1.
-pub fn root_at(words: &[u64; 331], i: u64) -> Root {
-    if root_words(words) == 0 {
-        return Root {
-            reward: 1,
-            node: add(records(words), 1),
-        };
+impl Table {
+    // The words of a file, each with its highest byte first.
+    pub fn decode(file: &[u8]) -> Table {
+        let mut words = [0; 331];
+        for (word, bytes) in words.iter_mut().zip(file.as_chunks::<4>().0) {
+            *word = u32::from_be_bytes(*bytes);
+        }
+        Table { words }
     }
-    let word = word_at(words, root_place(words, i));
-    Root {
-        reward: word.q,
-        node: word.r,
-    }
-}
 
-fn total_reward(words: &[u64; 331]) -> u64 {
-    let end = roots(words);
-    let mut total: u64 = 0;
-    let mut i: u64 = 0;
-    while i < end {
-        total = add(total, root_at(words, i).reward);
-        i += 1;
+    // The word at a place; 0 past the end.
+    pub fn word_at(&self, place: u64) -> Word {
+        let raw = self.words.get(place as usize).copied();
+        Word::from(raw.unwrap_or(0))
     }
-    total
-}
 
-// B: the product of b over all variables, times the total reward.
-pub fn scale(words: &[u64; 331]) -> u64 {
-    mul(scale_below(words, variables(words)), total_reward(words))
+    // V.
+    pub fn variables(&self) -> u64 {
+        self.word_at(0).p
+    }
+
+    // N.
+    pub fn records(&self) -> u64 {
+        self.word_at(0).q
+    }
+
+    // The number of root words, R.
+    pub fn root_words(&self) -> u64 {
+        self.word_at(0).r
+    }
+
+    // The positions of the variables.
+    pub fn positions(&self) -> Range<u64> {
+        0..self.variables()
+    }
+
+    // The word of the variable at position v.
+    pub fn variable(&self, v: u64) -> Word {
+        self.word_at(v.saturating_add(1))
+    }
+
+    pub fn is_choice(&self, v: u64) -> bool {
+        self.variable(v).is(Kind::Choice)
+    }
+
+    // The nodes that are records.
+    pub fn nodes(&self) -> Range<u64> {
+        2..self.records().saturating_add(2)
+    }
+
+    // The place of the record that is a node. The first record is node 2, and stands after the heading
+    // and the variables.
+    pub fn place_of(&self, node: u64) -> u64 {
+        self.variables().saturating_add(node).saturating_sub(1)
+    }
+
+    // The record that is a node.
+    pub fn record(&self, node: u64) -> Word {
+        self.word_at(self.place_of(node))
+    }
+
+    // How many of the first n variables are choices.
+    pub fn choices_below(&self, n: u64) -> u64 {
+        (0..n).filter(|v| self.is_choice(*v)).count() as u64
+    }
+
+    pub fn choices(&self) -> u64 {
+        self.choices_below(self.variables())
+    }
+
+    // The choices that are not in a set of choices.
+    pub fn others(&self, set: Set) -> Set {
+        Set::below(self.choices()).symmetric_difference(set)
+    }
+
+    // The kits of the lines taken, R and one more for each.
+    pub fn cost_of(&self, taken: Set) -> u64 {
+        self.positions()
+            .filter(|v| self.is_choice(*v) && taken.contains(self.choices_below(*v)))
+            .map(|v| self.variable(v).r.saturating_add(1))
+            .fold(0, u64::saturating_add)
+    }
+
+    // The product of b over the first n variables.
+    pub fn scale_below(&self, n: u64) -> u64 {
+        (0..n)
+            .map(|v| self.variable(v))
+            .filter(|word| word.is(Kind::Chance))
+            .fold(1, |product: u64, word| product.saturating_mul(word.r))
+    }
+
+    // The place of root word i, after the records.
+    pub fn root_place(&self, i: u64) -> u64 {
+        let before = self.variables().saturating_add(self.records());
+        i.saturating_add(1).saturating_add(before)
+    }
+
+    // The number of roots: without root words there is one.
+    pub(crate) fn roots(&self) -> u64 {
+        self.root_words().max(1)
+    }
+
+    // Root i: that of its word or, without root words, the last record with reward 1.
+    pub(crate) fn root_at(&self, i: u64) -> Root {
+        if self.root_words() == 0 {
+            return Root {
+                reward: 1,
+                node: self.records().saturating_add(1),
+            };
+        }
+        let word = self.word_at(self.root_place(i));
+        Root {
+            reward: word.q,
+            node: word.r,
+        }
+    }
+
+    fn total_reward(&self) -> u64 {
+        (0..self.roots())
+            .map(|i| self.root_at(i).reward)
+            .fold(0, u64::saturating_add)
+    }
+
+    // B: the product of b over all variables, times the total reward.
+    pub fn scale(&self) -> u64 {
+        self.scale_below(self.variables())
+            .saturating_mul(self.total_reward())
+    }
 }

@@ -24,18 +24,16 @@ pub fn choices_of(file: &[u8]) -> Choices
     ensures kits { result.kits ≡ pad_to 20 (table_of file.now).kits }
 {
     let v = variable_count(file);
-    let mut positions = [0u8; 20];
-    let mut kits = [0u16; 20];
+    let mut positions = [0; 20];
+    let mut kits = [0; 20];
     let mut count = 0;
-    let mut p = 0;
-    while p < v {
+    for p in 0..v {
         let at = Position::new(p);
         if is_choice(file, at) {
             positions[count] = p;
             kits[count] = kits_at(file, at);
             count += 1;
         }
-        p += 1;
     }
     Choices {
         count,

@@ -31,15 +31,12 @@ pub fn roots_of(file: &[u8]) -> RootEntries
     ensures rewards { result.rewards ≡ pad_to 16 (root_rewards (table_of file.now).roots) }
 {
     let count = root_count(file);
-    let mut nodes = [0u8; 16];
-    let mut rewards = [0u64; 16];
-    let mut i = 0;
-    while i < count {
+    let mut nodes = [0; 16];
+    let mut rewards = [0; 16];
+    for i in 0..count {
         let root = root_at(file, i);
-        let node = root.node;
-        nodes[i] = node.byte();
+        nodes[i] = root.node.byte();
         rewards[i] = root.reward;
-        i += 1;
     }
     RootEntries {
         count,
@@ -73,9 +70,9 @@ pub fn root_at(file: &[u8], i: usize) -> Root
             reward: 1,
         };
     }
-    let w = word_at(file, 1 + variable_count(file) as usize + n + i);
+    let w = word_at(file, 1 + usize::from(variable_count(file)) + n + i);
     Root {
         node: Node::new(field_r(w) as u8),
-        reward: field_q(w) as u64,
+        reward: u64::from(field_q(w)),
     }
 }

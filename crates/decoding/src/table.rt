@@ -6,12 +6,12 @@ ghost use Rattle.diagram.specs.Words.{word_at};
 ghost use Rattle.diagram.specs.Table.{sequence, variable_count, table_of, choice_count};
 ghost use Rattle.diagram.specs.Checks.{root_fault};
 ghost use Rattle.decoding.specs.Nodes.{Shaped};
-ghost use Rattle.decoding.specs.Decoding.{pad_to, table_in, Held, empty_table};
+ghost use Rattle.decoding.specs.Decoding.{pad_to, table_in, Held};
 
-use crate::choices::choices_of;
+use crate::choices::{Choices, choices_of};
 use crate::heading::{record_count, variable_count};
-use crate::records::decode_records;
-use crate::roots::roots_of;
+use crate::records::copy_records;
+use crate::roots::{RootEntries, roots_of};
 use crate::variables::words_of;
 
 // A table by value: V, N, the number of choices and B; by position the variables' words; by choice number its position and kits; by
@@ -42,51 +42,32 @@ pub fn decode(file: &[u8], scale: u64) -> Decoded
     ensures held { Held result }
     ensures words { result.words ≡ pad_to 64 (sequence (word_at file.now) 1 (variable_count file.now)) }
 {
-    let mut positions = [0u8; 256];
-    let mut high = [0u8; 256];
-    let mut low = [0u8; 256];
-    decode_records(file, &mut positions, &mut high, &mut low);
-    let choices = choices_of(file);
-    let choice_positions = choices.positions;
-    let kits = choices.kits;
-    let entries = roots_of(file);
-    let nodes = entries.nodes;
-    let rewards = entries.rewards;
+    let Choices {
+        count: choices,
+        positions: choice_positions,
+        kits,
+    } = choices_of(file);
+    let RootEntries {
+        count: roots,
+        nodes,
+        rewards,
+    } = roots_of(file);
     let words = words_of(file);
-    Decoded {
+    let mut table = Decoded {
         variables: variable_count(file),
         records: record_count(file),
-        choices: choices.count,
+        choices,
         scale,
         words,
         choice_positions,
         kits,
-        positions,
-        high,
-        low,
-        roots: entries.count,
+        positions: [0; 256],
+        high: [0; 256],
+        low: [0; 256],
+        roots,
         nodes,
         rewards,
-    }
-}
-
-// The table that is handed out where a file is turned away.
-pub fn empty() -> Decoded
-    ensures { result ≡ empty_table }
-{
-    Decoded {
-        variables: 0,
-        records: 0,
-        choices: 0,
-        scale: 0,
-        words: [0u32; 64],
-        choice_positions: [0u8; 20],
-        kits: [0u16; 20],
-        positions: [0u8; 256],
-        high: [0u8; 256],
-        low: [0u8; 256],
-        roots: 0,
-        nodes: [0u8; 16],
-        rewards: [0u64; 16],
-    }
+    };
+    copy_records(file, &mut table.positions, &mut table.high, &mut table.low);
+    table
 }

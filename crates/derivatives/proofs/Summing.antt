@@ -17,17 +17,6 @@ use Rattle.diagram.proofs.Places.{sequence-length, sequence-at}
 use Rattle.derivatives.specs.Drops.{Lossy, loss_at, opens_at, loss_sum, loss_sums, Losing}
 
 -- ---------------------------------------------------------------------------
--- One cell, read at m for node or position d
-
--- the cell with x added
-pub added-read : (cells : List ℕ) (x : ℕ) {m d : ℕ} → m ≡ d → set cells m (get_or cells m 0 + x) ≡ set cells d (get_or cells d 0 + x)
-added-read cells x e = rw e
-
--- a bound of its sum with x
-pub added-fits : (cells : List ℕ) (x : ℕ) {m d b : ℕ} → m ≡ d → get_or cells d 0 + x < b → get_or cells m 0 + x < b
-added-fits cells x e h = rw e h
-
--- ---------------------------------------------------------------------------
 -- A sum, record after record
 
 module _ (a : Lossy) (x : ℕ) where

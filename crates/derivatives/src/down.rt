@@ -1,5 +1,5 @@
 // The pass down the records: the path weight of every node.
-ghost use Rattle.std.specs.Prelude.{◌≡◌, ℕ, ◌+◌, ◌≤◌, ◌<◌, ◌^◌, length, get_or};
+ghost use Rattle.std.specs.Prelude.{◌≡◌, ℕ, ◌+◌, ◌≤◌, ◌<◌, ◌^◌, get_or};
 ghost use Rattle.valuing.specs.Passes.{arcs_of};
 ghost use Rattle.derivatives.specs.Down as down;
 ghost use Rattle.derivatives.specs.Down.{added, entered_by, RootFits, hand_on, HandsOn, Budget};
@@ -19,29 +19,22 @@ pub fn pass_down<'a>(
     weights: &[u64; 544],
     paths: &mut [u64; 256],
 )
-    requires budget { (n ≤ 254) × ((scales : ℕ → ℕ) × Budget (arcs_of high.now low.now weights.now) n scales paths.old) }
-    requires sizes { length paths.old ≡ 256 }
+    requires { (n ≤ 254) × ((scales : ℕ → ℕ) × Budget (arcs_of high.now low.now weights.now) n scales paths.old) }
     ensures { paths.new ≡ down.pass_down (arcs_of high.now low.now weights.now) n paths.old }
 {
-    let mut k = n;
-    while 0 < k {
-        k -= 1;
+    for k in (0..n).rev() {
         hand_on(high, low, weights, paths, Node::of_record(k));
     }
 }
 
 // Adds what comes to the roots to the path weights of their nodes. The sums fit: `two_passes` hands in zeros and the roots of an
 // accepted table, which bring at most B.
-pub fn enter(roots: Roots, paths: &mut [u64; 256])
-    requires fits { (roots.count ≤ 16) × ((i : ℕ) → i < roots.count → RootFits roots paths.old i) }
-    requires sizes { length paths.old ≡ 256 }
-    ensures { paths.new ≡ entered_by roots roots.count paths.old }
+pub fn enter(roots: &Roots, paths: &mut [u64; 256])
+    requires { (roots.now.count ≤ 16) × ((i : ℕ) → i < roots.now.count → RootFits roots.now paths.old i) }
+    ensures { paths.new ≡ entered_by roots.now roots.now.count paths.old }
 {
-    let mut i = 0;
-    while i < roots.count {
-        let node = Node::new(roots.nodes[i]);
-        add(paths, node, roots.weights[i]);
-        i += 1;
+    for i in 0..roots.count {
+        add(paths, Node::new(roots.nodes[i]), roots.weights[i]);
     }
 }
 
@@ -53,8 +46,7 @@ fn hand_on(
     paths: &mut [u64; 256],
     node: Node,
 )
-    requires fits { HandsOn (arcs_of high.now low.now weights.now) node.0 paths.old }
-    requires sizes { length paths.old ≡ 256 }
+    requires { HandsOn (arcs_of high.now low.now weights.now) node.0 paths.old }
     ensures { paths.new ≡ hand_on (arcs_of high.now low.now weights.now) node.0 paths.old }
 {
     let m = node.number();
@@ -65,10 +57,8 @@ fn hand_on(
 
 // Adds to the path weight of a node. The sum fits.
 fn add(paths: &mut [u64; 256], node: Node, x: u64)
-    requires { (length paths.old ≡ 256) × (get_or paths.old node.0 0 + x < 2 ^ 64) }
+    requires { get_or paths.old node.0 0 + x < 2 ^ 64 }
     ensures { paths.new ≡ added paths.old node.0 x }
 {
-    let i = node.number();
-    let held = paths[i];
-    paths[i] = held + x;
+    paths[node.number()] += x;
 }

@@ -19,24 +19,22 @@ pub struct Sweep {
 
 // The top and the drops of an accepted table and a plan that the checks 21 and 22 let through: one pass up gives the values of the
 // nodes, one pass down their path weights, from what the roots bring.
-pub fn two_passes(table: Decoded, plan: &[u8]) -> Sweep
-    requires sound { Sound table }
-    requires plan { (length plan.now ≡ choice_count (table_in table).variables) × ((i : ℕ) → get_or plan.now i 0 ≤ 2) }
-    ensures bound { result.bound ≡ upper_bound (table_in table) plan.now }
-    ensures drops { result.drops ≡ over (derivatives (table_in table) plan.now) (replicate 20 0) }
+pub fn two_passes(table: &Decoded, plan: &[u8]) -> Sweep
+    requires sound { Sound table.now }
+    requires plan { (length plan.now ≡ choice_count (table_in table.now).variables) × ((i : ℕ) → get_or plan.now i 0 ≤ 2) }
+    ensures bound { result.bound ≡ upper_bound (table_in table.now) plan.now }
+    ensures drops { result.drops ≡ over (derivatives (table_in table.now) plan.now) (replicate 20 0) }
 {
-    let mut arcs = [0u64; 544];
-    let mut weights = [0u64; 544];
-    let mut values = [0u64; 256];
+    let mut arcs = [0; 544];
+    let mut weights = [0; 544];
+    let mut values = [0; 256];
     let valued = value_plan(table, plan, &mut arcs, &mut weights, &mut values);
-    let mut paths = [0u64; 256];
-    let roots = valued.roots;
-    enter(roots, &mut paths);
+    let mut paths = [0; 256];
+    enter(&valued.roots, &mut paths);
     pass_down(table.records, &table.high, &table.low, &weights, &mut paths);
-    let marks = valued.marks;
-    let drops = drops_by_position(table, &marks, &arcs, &values, &paths);
+    let drops = drops_by_position(table, &valued.marks, &arcs, &values, &paths);
     Sweep {
         bound: valued.bound,
-        drops: by_choice(table.choices, &table.choice_positions, &drops),
+        drops: by_choice(&table.choice_positions[..table.choices], &drops),
     }
 }

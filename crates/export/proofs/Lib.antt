@@ -1,3 +1,2 @@
--- What an outcome hands back, and what a result of 0 says.
-pub mod Handing
+-- What a result of 0 says.
 pub mod Zero

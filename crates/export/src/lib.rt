@@ -1,137 +1,16 @@
 // The five services for programs in other languages: functions over numbers and byte slices. A result is 0 where the request
 // is answered, and else the refusal's number, with its place written. What is not written is left as it was.
-#![tactic(auto)]
+#![tactic(auto, unfolding(crate::specs::Numbers::number_of, crate::specs::Numbers::place_of, crate::specs::Numbers::value_of, steps::specs::Steps::outcome_by))]
 
-ghost use Rattle.std.specs.Prelude.{◌≡◌, length};
-ghost use Rattle.diagram.specs.Services.{read_outcome, score_outcome, sweep_outcome, sweep_buffer, filter_outcome, filter_buffer, search_outcome, search_buffer};
-ghost use Rattle.export.specs.Numbers.{number_of, place_of, value_of};
+mod filters;
+mod reads;
+mod refusing;
+mod scores;
+mod searches;
+mod sweeps;
 
-use filtering::{FilterAnswer, filter};
-use reading::{ReadAnswer, read};
-use scoring::{ScoreAnswer, score as score_of};
-use search::{SearchAnswer, search};
-use sweep::{SweepAnswer, sweep};
-use terms::Refusal;
-
-// Reads a table: V, N, the number of choices and B.
-pub fn jigbalo_read(
-    file: &[u8],
-    place: &mut u64,
-    variables: &mut u64,
-    records: &mut u64,
-    choices: &mut u64,
-    scale: &mut u64,
-) -> u64
-    ensures result { result ≡ number_of (read_outcome file.now) }
-    ensures place { place.new ≡ place_of (read_outcome file.now) place.old }
-    ensures variables { variables.new ≡ value_of (λ a. a.variables) (read_outcome file.now) variables.old }
-    ensures records { records.new ≡ value_of (λ a. a.records) (read_outcome file.now) records.old }
-    ensures choices { choices.new ≡ value_of (λ a. a.choices) (read_outcome file.now) choices.old }
-    ensures scale { scale.new ≡ value_of (λ a. a.scale) (read_outcome file.now) scale.old }
-{
-    let t = match read(file) {
-        ReadAnswer::Table(t) => t,
-        ReadAnswer::Refused(r) => return refuse(r, place),
-    };
-    *variables = t.variables as u64;
-    *records = t.records as u64;
-    *choices = t.choices as u64;
-    *scale = t.scale;
-    0
-}
-
-// The score of a full plan.
-pub fn jigbalo_score(file: &[u8], plan: &[u8], place: &mut u64, score: &mut u64) -> u64
-    ensures result { result ≡ number_of (score_outcome file.now plan.now) }
-    ensures place { place.new ≡ place_of (score_outcome file.now plan.now) place.old }
-    ensures score { score.new ≡ value_of (λ a. a) (score_outcome file.now plan.now) score.old }
-{
-    match score_of(file, plan) {
-        ScoreAnswer::Score(x) => {
-            *score = x;
-            0
-        }
-        ScoreAnswer::Refused(r) => refuse(r, place),
-    }
-}
-
-// The top of a plan, with the drop of each choice written to the buffer.
-pub fn jigbalo_sweep(
-    file: &[u8],
-    plan: &[u8],
-    drops: &mut [u64],
-    place: &mut u64,
-    top: &mut u64,
-) -> u64
-    ensures result { result ≡ number_of (sweep_outcome file.now plan.now (length drops.old)) }
-    ensures place { place.new ≡ place_of (sweep_outcome file.now plan.now (length drops.old)) place.old }
-    ensures top { top.new ≡ value_of (λ a. a.upper_bound) (sweep_outcome file.now plan.now (length drops.old)) top.old }
-    ensures drops { drops.new ≡ sweep_buffer file.now plan.now drops.old }
-{
-    match sweep(file, plan, drops) {
-        SweepAnswer::Bound(x) => {
-            *top = x;
-            0
-        }
-        SweepAnswer::Refused(r) => refuse(r, place),
-    }
-}
-
-// How many lines the percentage forces, with the plan that takes them written to the buffer.
-pub fn jigbalo_filter(
-    file: &[u8],
-    plan: &[u8],
-    percent: u32,
-    out: &mut [u8],
-    place: &mut u64,
-    forced: &mut u64,
-) -> u64
-    ensures result { result ≡ number_of (filter_outcome file.now plan.now percent (length out.old)) }
-    ensures place { place.new ≡ place_of (filter_outcome file.now plan.now percent (length out.old)) place.old }
-    ensures forced { forced.new ≡ value_of (λ a. a.forced) (filter_outcome file.now plan.now percent (length out.old)) forced.old }
-    ensures out { out.new ≡ filter_buffer file.now plan.now percent out.old }
-{
-    match filter(file, plan, percent, out) {
-        FilterAnswer::Forced(n) => {
-            *forced = n as u64;
-            0
-        }
-        FilterAnswer::Refused(r) => refuse(r, place),
-    }
-}
-
-// The score of the first candidate and the visits, with its marks written to the buffer.
-pub fn jigbalo_search(
-    file: &[u8],
-    plan: &[u8],
-    kits: u32,
-    percent: u32,
-    out: &mut [u8],
-    place: &mut u64,
-    score: &mut u64,
-    visits: &mut u64,
-) -> u64
-    ensures result { result ≡ number_of (search_outcome file.now plan.now kits percent (length out.old)) }
-    ensures place { place.new ≡ place_of (search_outcome file.now plan.now kits percent (length out.old)) place.old }
-    ensures score { score.new ≡ value_of (λ a. a.score) (search_outcome file.now plan.now kits percent (length out.old)) score.old }
-    ensures visits { visits.new ≡ value_of (λ a. a.visits) (search_outcome file.now plan.now kits percent (length out.old)) visits.old }
-    ensures out { out.new ≡ search_buffer file.now plan.now kits percent out.old }
-{
-    match search(file, plan, kits, percent, out) {
-        SearchAnswer::Found(f) => {
-            *score = f.score;
-            *visits = f.visits;
-            0
-        }
-        SearchAnswer::Refused(r) => refuse(r, place),
-    }
-}
-
-// Hands back a refusal: its number is the result, its place is written.
-fn refuse(r: Refusal, place: &mut u64) -> u64
-    ensures number { result ≡ r.number }
-    ensures place { place.new ≡ r.place }
-{
-    *place = r.place as u64;
-    r.number as u64
-}
+pub use filters::jigbalo_filter;
+pub use reads::jigbalo_read;
+pub use scores::jigbalo_score;
+pub use searches::jigbalo_search;
+pub use sweeps::jigbalo_sweep;

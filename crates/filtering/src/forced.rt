@@ -11,10 +11,7 @@ fn is_forced(mark: u8, least: u64, bound: u64, drop: u64) -> bool
     requires { drop ≤ bound }
     ensures { result ≡ (eqb mark 0 && not (leb least (bound - drop))) }
 {
-    if mark != Plan::OPEN {
-        return false;
-    }
-    !passes(least, bound - drop)
+    mark == Plan::OPEN && !passes(least, bound - drop)
 }
 
 // Writes the plan with its forced lines taken, and answers how many they are. The top and the drops are the plan's, and
@@ -25,16 +22,13 @@ pub fn force(plan: &[u8], least: u64, bound: u64, drops: &[u64; 20], out: &mut [
     ensures { (t : Table) (percent : ℕ) → Swept t plan.now percent least bound drops.now → Forces t plan.now percent result out.new }
 {
     let mut count = 0;
-    let mut i = 0;
-    while i < plan.len() {
-        let mark = plan[i];
-        if is_forced(mark, least, bound, drops[i]) {
+    for (i, mark) in plan.iter().enumerate() {
+        if is_forced(*mark, least, bound, drops[i]) {
             out[i] = Plan::TAKEN;
             count += 1;
         } else {
-            out[i] = mark;
+            out[i] = *mark;
         }
-        i += 1;
     }
     count
 }

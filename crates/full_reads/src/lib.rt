@@ -1,7 +1,7 @@
 // Reads that fill a buffer, whether the input comes whole or in pieces.
 #![tactic(auto)]
 
-ghost use Rattle.std.specs.Prelude.{◌≡◌, ◌+◌, ◌<◌, ◌≤◌, IfOk, length, take, drop};
+ghost use Rattle.std.specs.Prelude.{◌≡◌, ◌<◌, ◌≤◌, IfOk, length, take};
 ghost use Rattle.std.specs.Io.KnownBytes.{Consumes, IsAtEnd};
 
 use std::io::{self, Read};
@@ -15,22 +15,11 @@ pub fn read_full<R: Read>(reader: &mut R, buffer: &mut [u8]) -> io::Result<usize
 {
     let mut done = 0;
     while done < buffer.len() {
-        let n = read_at(reader, buffer, done)?;
+        let n = reader.read(&mut buffer[done..])?;
         if n == 0 {
             break;
         }
         done += n;
     }
     Ok(done)
-}
-
-// One read, to a place of the buffer and on.
-fn read_at<R: Read>(reader: &mut R, buffer: &mut [u8], at: usize) -> io::Result<usize>
-    requires { at < length buffer.old }
-    ensures front { take at buffer.new ≡ take at buffer.old }
-    ensures within { IfOk result (λ n. at + n ≤ length buffer.new) }
-    ensures bytes { IfOk result (λ n. Consumes (R.remaining reader.old) (R.remaining reader.new) (take n (drop at buffer.new))) }
-    ensures whole { IfOk result (λ n. n ≡ 0 → IsAtEnd (R.remaining reader.new)) }
-{
-    reader.read(&mut buffer[at..])
 }

@@ -11,7 +11,7 @@ use lib.Bits.{bit_or}
 use lib.ListN.{length, get_or, set, replicate, length-set}
 use lib.Seq.{get_or-set_same, get_or-set_other}
 use lib.Dec.{eqb}
-use borrow.Author.Tests.{eqb-true, eqb-false, eq-eqb, ne_eqb}
+use borrow.Author.Tests.{eqb-true, eqb-false, eq-eqb}
 use Rattle.implication.specs.Nodes.{AtOnce, is_known, bit, cell, zeros_below, zeros, Met}
 use Rattle.implication.proofs.Digits.{shifted_one, set_here, set-others, or_adds}
 
@@ -26,19 +26,6 @@ known_once m n = go (eqb m 0) (eqb n 1) refl refl
     go true b ea eb e = inl (eqb-true m 0 ea)
     go false true ea eb e = inr (inl (eqb-true n 1 eb))
     go false false ea eb e = inr (inr (eqb-true m n e))
-
--- the tests in their order
-pub known_first : (m n : ℕ) → m ≡ 0 → is_known m n ≡ true
-unfolding is_known
-known_first m n e = simp (eq-eqb m 0 e)
-
-pub known_second : (m n : ℕ) → (m ≡ 0 → ⊥) → n ≡ 1 → is_known m n ≡ true
-unfolding is_known
-known_second m n f e = simp (ne_eqb m 0 f, eq-eqb n 1 e)
-
-pub known_same : (m n : ℕ) → (m ≡ 0 → ⊥) → (n ≡ 1 → ⊥) → is_known m n ≡ eqb m n
-unfolding is_known
-known_same m n f g = simp (ne_eqb m 0 f, ne_eqb n 1 g)
 
 cell_known : (met : List ℕ) (m n : ℕ) → is_known m n ≡ true → cell met m n ≡ 1
 unfolding cell

@@ -1,9 +1,9 @@
 -- The stack of pairs of nodes: how it begins, how a pair is met, how the pair on top is expanded, and what it says at the end.
 -- Assumes nothing.
-use Prim.Native.Nat.{ℕ, zero, suc, ◌+◌, ◌-◌, ◌*◌, ◌≤◌, ◌<◌, max}
+use Prim.Native.Nat.{ℕ, zero, suc, ◌+◌, ◌-◌, ◌≤◌, ◌<◌, max}
 use native.Mathlib.Decide.{dec_lt}
 use native.Mathlib.Omega.{arith}
-use mathlib.Core.Path.{◌≡◌, refl, sym, ◌∙◌}
+use mathlib.Core.Path.{◌≡◌, refl, ap, sym, ◌∙◌}
 use mathlib.Core.Bool.{Bool, true, false, cond, false≢true}
 use mathlib.Core.Logic.{◌⊎◌, inl, inr, ⊎_elim, by_cases}
 use mathlib.Core.List.{List}
@@ -18,7 +18,8 @@ use Rattle.diagram.proofs.Every.{both, and_true_both}
 use Rattle.diagram.proofs.Implication.{implies_false_end, implies_true_end, implies-same, implies-ends}
 use Rattle.decoding.specs.declared.table.Decoded.{Decoded}
 use Rattle.decoding.specs.Decoding.{table_in}
-use Rattle.implication.specs.Nodes.{records_of, end_of, Checkable, asked_node, Pairs, next, smaller, cell, AtOnce, zeros, first_at, second_at, Met, Room, pushed, Expanded, Waits, Stack}
+use Rattle.implication.specs.Nodes.{records_of, end_of, Checkable, asked_node, Pairs, next, smaller, cell, AtOnce, zeros, first_at, second_at, Met, Room, pushed, no_pair, Expanded, Waits, Stack, Kept}
+use Rattle.implication.specs.declared.worklist.Pair.{Pair}
 use Rattle.implication.proofs.Cells.{cell-le, origin-cell, only_known, zeros-marked}
 use Rattle.implication.proofs.Pairing.{Meets, next_le, next_less, next-later, next_split, position-few, held-asked}
 
@@ -32,7 +33,7 @@ at_once v rs m n (inr (inl e)) = rw e (implies_true_end v rs m)
 at_once v rs m n (inr (inr e)) = rw e (implies-same v rs n)
 
 -- the stack with nothing on it
-pub start : {ps hs ls met stack : List ℕ} → Pairs ps hs ls → met ≡ replicate 1024 0 → length stack ≡ 128 → Stack ps hs ls met stack 0 0 0 0 0
+pub start : {ps hs ls met : List ℕ} {stack : List Pair} → Pairs ps hs ls → met ≡ replicate 1024 0 → length stack ≡ 64 → Stack ps hs ls met stack 0 0 0 0 0
 start {ps} {hs} {ls} pairs none size =
     rw none (record {
       pairs = pairs;
@@ -50,49 +51,39 @@ start {ps} {hs} {ls} pairs none size =
 -- A pair is met
 
 -- the stack after a pair is met
-pushed-length : (c : ℕ) (stack : List ℕ) (depth m n : ℕ) → length (pushed c stack depth m n) ≡ length stack
+pushed-length : (c : ℕ) (stack : List Pair) (depth m n : ℕ) → length (pushed c stack depth m n) ≡ length stack
 unfolding pushed
 pushed-length zero stack depth m n = simp length-set refl
 pushed-length (suc c) stack depth m n = refl
 
-pushed-kept : (c : ℕ) (stack : List ℕ) (depth m n i : ℕ) → i < depth * 2 → get_or (pushed c stack depth m n) i 0 ≡ get_or stack i 0
+pushed-kept : (c : ℕ) (stack : List Pair) (depth m n j : ℕ) → j < depth → get_or (pushed c stack depth m n) j no_pair ≡ get_or stack j no_pair
 unfolding pushed
-pushed-kept zero stack depth m n i l =
-    get_or-set_other (set stack (depth * 2) m) (depth * 2 + 1) i n 0 (λ e. omega arith)
-    ∙ get_or-set_other stack (depth * 2) i m 0 (λ e. omega arith)
-pushed-kept (suc c) stack depth m n i l = refl
+pushed-kept zero stack depth m n j l = get_or-set_other stack depth j _ no_pair (λ e. omega arith)
+pushed-kept (suc c) stack depth m n j l = refl
 
-pushed-first : (c : ℕ) (stack : List ℕ) (depth m n : ℕ) → c < 1 → depth * 2 < length stack → first_at (pushed c stack depth m n) depth ≡ m
+pushed-new : (c : ℕ) (stack : List Pair) (depth m n : ℕ) → c < 1 → depth < length stack → get_or (pushed c stack depth m n) depth no_pair ≡ record { first = record { 0 = m }; second = record { 0 = n } }
 unfolding pushed
-pushed-first zero stack depth m n f l =
-    get_or-set_other (set stack (depth * 2) m) (depth * 2 + 1) (depth * 2) n 0 (λ e. omega arith)
-    ∙ get_or-set_same stack (depth * 2) m 0 l
-pushed-first (suc c) stack depth m n f l = absurd (omega arith)
+pushed-new zero stack depth m n f l = get_or-set_same stack depth _ no_pair l
+pushed-new (suc c) stack depth m n f l = absurd (omega arith)
 
-pushed-second : (c : ℕ) (stack : List ℕ) (depth m n : ℕ) → c < 1 → depth * 2 + 1 < length stack → second_at (pushed c stack depth m n) depth ≡ n
-unfolding pushed
-pushed-second zero stack depth m n f l =
-    get_or-set_same (set stack (depth * 2) m) (depth * 2 + 1) n 0 (rw (length-set stack (depth * 2) m) l)
-pushed-second (suc c) stack depth m n f l = absurd (omega arith)
-
--- at the cell that the code has read, and the bytes that it writes
-pub pushed_none : {c : ℕ} → c ≡ 1 → (stack : List ℕ) (depth m n : ℕ) → stack ≡ pushed c stack depth m n
+-- at the cell that the code has read
+pub pushed_none : {c : ℕ} → c ≡ 1 → (stack : List Pair) (depth m n : ℕ) → stack ≡ pushed c stack depth m n
 unfolding pushed
 pushed_none e stack depth m n = rw e refl
 
-pub pushed-one : {c : ℕ} → c ≡ 0 → (stack : List ℕ) (depth m n : ℕ) {first second : ℕ} → first ≡ m → second ≡ n → set (set stack (depth * 2) first) (depth * 2 + 1) second ≡ pushed c stack depth m n
+pub pushed-one : {c : ℕ} → c ≡ 0 → (stack : List Pair) (depth m n : ℕ) → set stack depth (record { first = record { 0 = m }; second = record { 0 = n } }) ≡ pushed c stack depth m n
 unfolding pushed
-pushed-one e stack depth m n is is' = rw (e, is, is') refl
+pushed-one e stack depth m n = rw e refl
 
 -- the arrays before and after the pair m, n is met
-pub record Meeting (met stack : List ℕ) (depth m n : ℕ) (met' stack' : List ℕ) (depth' : ℕ) : Type 0 where
+pub record Meeting (met : List ℕ) (stack : List Pair) (depth m n : ℕ) (met' : List ℕ) (stack' : List Pair) (depth' : ℕ) : Type 0 where
   pub m_small : m < 256
   pub n_small : n < 256
   pub end : depth' ≡ depth + (1 - cell met m n)
   pub cells : Met met met' m n
   pub pushes : stack' ≡ pushed (cell met m n) stack depth m n
 
-module _ {ps hs ls met stack met' stack' : List ℕ} {c d x y depth depth' m n : ℕ} (h : Stack ps hs ls met stack c d x y depth) (g : Meeting met stack depth m n met' stack' depth') where
+module _ {ps hs ls met met' : List ℕ} {stack stack' : List Pair} {c d x y depth depth' m n : ℕ} (h : Stack ps hs ls met stack c d x y depth) (g : Meeting met stack depth m n met' stack' depth') where
   -- what is still to be met and what waits are as many as before
   met_left : zeros met' + depth' ≡ zeros met + depth
   met_left =
@@ -108,22 +99,22 @@ module _ {ps hs ls met stack met' stack' : List ℕ} {c d x y depth depth' m n :
 
   -- the stack is as it was, and m, n stands on it if it is new
   first-kept : (j : ℕ) → j < depth → first_at stack' j ≡ first_at stack j
-  first-kept j l = rw g.pushes (pushed-kept (cell met m n) stack depth m n (j * 2) (omega arith))
+  first-kept j l = rw g.pushes (ap (λ (p : Pair). p.first.0) (pushed-kept (cell met m n) stack depth m n j l))
 
   second-kept : (j : ℕ) → j < depth → second_at stack' j ≡ second_at stack j
-  second-kept j l = rw g.pushes (pushed-kept (cell met m n) stack depth m n (j * 2 + 1) (omega arith))
+  second-kept j l = rw g.pushes (ap (λ (p : Pair). p.second.0) (pushed-kept (cell met m n) stack depth m n j l))
+
+  new_pair : cell met m n < 1 → get_or stack' depth no_pair ≡ record { first = record { 0 = m }; second = record { 0 = n } }
+  new_pair f =
+      let shallow = h.room.shallow in
+      let size = h.room.stack_size in
+      rw g.pushes (pushed-new (cell met m n) stack depth m n f (omega arith))
 
   first_new : cell met m n < 1 → first_at stack' depth ≡ m
-  first_new f =
-      let shallow = h.room.shallow in
-      let size = h.room.stack_size in
-      rw g.pushes (pushed-first (cell met m n) stack depth m n f (omega arith))
+  first_new f = ap (λ (p : Pair). p.first.0) (new_pair f)
 
   second_new : cell met m n < 1 → second_at stack' depth ≡ n
-  second_new f =
-      let shallow = h.room.shallow in
-      let size = h.room.stack_size in
-      rw g.pushes (pushed-second (cell met m n) stack depth m n f (omega arith))
+  second_new f = ap (λ (p : Pair). p.second.0) (new_pair f)
 
   -- what holds of the pairs on the stack, and of m, n if it is new, holds of those on the stack now
   each_slot : (P : ℕ → ℕ → ℕ → Type 0) → ((j : ℕ) → j < depth → P j (first_at stack j) (second_at stack j)) → (cell met m n < 1 → P depth m n) → (j : ℕ) → j < depth' → P j (first_at stack' j) (second_at stack' j)
@@ -236,14 +227,8 @@ module _ {ps hs ls : List ℕ} (pairs : Pairs ps hs ls) where
         absurd (omega (arith, origin, rw (zp, zq) at new)))
         (λ l. rw (ep, eq) (next-later (record { pairs = pairs; m_small = lm; n_small = ln; met = λ i j. l (omega arith) }) b))
 
--- a stack that is not empty has a pair on top
-pub from-top : {ps hs ls met stack : List ℕ} {a b m n depth : ℕ} → 0 < depth → Stack ps hs ls met stack a b m n depth → Stack ps hs ls met stack a b m n (suc (depth - 1))
-from-top {depth} some h =
-    let e : suc (depth - 1) ≡ depth = omega arith in
-    rw e h
-
 -- the pair on top
-module _ {ps hs ls met stack : List ℕ} {a b top m n : ℕ} (h : Stack ps hs ls met stack a b 0 0 (suc top)) (first : m ≡ first_at stack top) (second : n ≡ second_at stack top) where
+module _ {ps hs ls met : List ℕ} {stack : List Pair} {a b top m n : ℕ} (h : Stack ps hs ls met stack a b 0 0 (suc top)) (first : m ≡ first_at stack top) (second : n ≡ second_at stack top) where
   on_stack : top < suc top
   on_stack = omega arith
 
@@ -296,7 +281,7 @@ module _ {ps hs ls met stack : List ℕ} {a b top m n : ℕ} (h : Stack ps hs ls
       off p q (inr (inr (inr e))) = inl (inl e.0)
 
 -- a pair that was taken off is expanded where both pairs that it leads to have been met
-expanded : {ps hs ls met stack : List ℕ} {a b m n depth : ℕ} → Stack ps hs ls met stack a b m n depth → Expanded ps hs ls met m n → Stack ps hs ls met stack a b 0 0 depth
+expanded : {ps hs ls met : List ℕ} {stack : List Pair} {a b m n depth : ℕ} → Stack ps hs ls met stack a b m n depth → Expanded ps hs ls met m n → Stack ps hs ls met stack a b 0 0 depth
 expanded {ps} {hs} {ls} {met} {stack} {m} {n} {depth} h on =
     record {
       pairs = h.pairs;
@@ -317,7 +302,7 @@ expanded {ps} {hs} {ls} {met} {stack} {m} {n} {depth} h on =
     past p q (inr (inr (inr (i, j)))) = inr (inl (rw (i, j) on))
 
 -- the pair on top is expanded: first the pair that it leads to by high children is met, then the one by low children
-module _ {ps hs ls met stack met₁ stack₁ : List ℕ} {a b top depth₁ m n high-m high-n : ℕ} (h : Stack ps hs ls met stack a b 0 0 (suc top)) (first : m ≡ first_at stack top) (second : n ≡ second_at stack top) (hm : high-m ≡ next ps hs m n) (hn : high-n ≡ next ps hs n m) (g : Meeting met stack top high-m high-n met₁ stack₁ depth₁) where
+module _ {ps hs ls met met₁ : List ℕ} {stack stack₁ : List Pair} {a b top depth₁ m n high-m high-n : ℕ} (h : Stack ps hs ls met stack a b 0 0 (suc top)) (first : m ≡ first_at stack top) (second : n ≡ second_at stack top) (hm : high-m ≡ next ps hs m n) (hn : high-n ≡ next ps hs n m) (g : Meeting met stack top high-m high-n met₁ stack₁ depth₁) where
   off_top : Stack ps hs ls met stack a b m n top
   off_top = take h first second
 
@@ -327,7 +312,7 @@ module _ {ps hs ls met stack met₁ stack₁ : List ℕ} {a b top depth₁ m n h
       (λ new. omega (arith, top_late h first second, new_later h.pairs m n (m_within h first second) (n_within h first second) met true h.origin hm hn new))
       a b (kept off_top g a b h.asked) (λ t. (t, rw (hm, hn) (sound h first second t).0))
 
-  module _ {met₂ stack₂ : List ℕ} {depth₂ low-m low-n : ℕ} (lm : low-m ≡ next ps ls m n) (ln : low-n ≡ next ps ls n m) (g₂ : Meeting met₁ stack₁ depth₁ low-m low-n met₂ stack₂ depth₂) where
+  module _ {met₂ : List ℕ} {stack₂ : List Pair} {depth₂ low-m low-n : ℕ} (lm : low-m ≡ next ps ls m n) (ln : low-n ≡ next ps ls n m) (g₂ : Meeting met₁ stack₁ depth₁ low-m low-n met₂ stack₂ depth₂) where
     pub expand_both : Stack ps hs ls met₂ stack₂ a b 0 0 depth₂
     expand_both =
         let end = g.end in
@@ -345,7 +330,7 @@ module _ {ps hs ls met stack met₁ stack₁ : List ℕ} {a b top depth₁ m n h
 -- ---------------------------------------------------------------------------
 -- The end
 
-module _ {ps hs ls met stack : List ℕ} {a b : ℕ} (h : Stack ps hs ls met stack a b 0 0 0) where
+module _ {ps hs ls met : List ℕ} {stack : List Pair} {a b : ℕ} (h : Stack ps hs ls met stack a b 0 0 0) where
   -- the pair of true and false does not imply
   refuted : cell met 1 0 ≡ 1 → implies (end_of ps) (records_of ps hs ls) a b ≡ false
   refuted e =
@@ -399,18 +384,22 @@ module _ {ps hs ls met stack : List ℕ} {a b : ℕ} (h : Stack ps hs ls met sta
 -- A record
 
 -- the pair of a record's children is met
-pub ask : {ps hs ls met stack met' stack' : List ℕ} {depth' m n : ℕ} → Stack ps hs ls met stack 0 0 0 0 0 → Meeting met stack 0 m n met' stack' depth' → Stack ps hs ls met' stack' m n 0 0 depth'
-ask {m} {n} h g = meet h g (λ _. omega arith) m n (here h g) (λ t. (implies_false_end _ _ 0, t))
+pub ask : {ps hs ls met met' : List ℕ} {stack stack' : List Pair} {depth depth' m n : ℕ} → depth ≡ 0 → Stack ps hs ls met stack 0 0 0 0 0 → Meeting met stack depth m n met' stack' depth' → Stack ps hs ls met' stack' m n 0 0 depth'
+ask {ps} {hs} {ls} {met} {met'} {stack} {stack'} {depth} {depth'} {m} {n} none h g =
+    let here' : Stack ps hs ls met stack 0 0 0 0 depth = rw none h in
+    meet here' g (λ _. omega arith) m n (here here' g) (λ t. (implies_false_end _ _ 0, t))
 
 -- what passing on all pairs that record k leads to gives: the pair of true and false is met where the record is not monotone, and
 -- else all pairs met imply
-pub record Drained (d : Decoded) (met stack : List ℕ) (k : ℕ) : Type 0 where
+pub record Drained (d : Decoded) (met : List ℕ) (stack : List Pair) (k : ℕ) : Type 0 where
   pub fault : cell met 1 0 ≡ 1 → false ≡ is_monotone_at (table_in d) k
   pub passes : (cell met 1 0 ≡ 1 → ⊥) → (true ≡ is_monotone_at (table_in d) k) × Stack d.positions d.high d.low met stack 0 0 0 0 0
 
-pub drained : {d : Decoded} → Checkable d → {k lo hi : ℕ} {met stack : List ℕ} → k < d.records → lo ≡ asked_node d.words d.positions d.low k → hi ≡ asked_node d.words d.positions d.high k → lo < 256 → hi < 256 → Stack d.positions d.high d.low met stack lo hi 0 0 0 → Drained d met stack k
-drained held {k} l elo ehi small small' h =
+-- after the pair of record k's children is met, and then all pairs of the stack and those that they lead to
+pub drained : {d : Decoded} → Checkable d → {k lo hi depth depth' : ℕ} {met met' met″ : List ℕ} {stack stack' stack″ : List Pair} → k < d.records → lo ≡ asked_node d.words d.positions d.low k → hi ≡ asked_node d.words d.positions d.high k → depth ≡ 0 → Stack d.positions d.high d.low met stack 0 0 0 0 0 → Meeting met stack depth lo hi met' stack' depth' → Kept d.positions d.high d.low met' stack' depth' met″ stack″ 0 → Drained d met″ stack″ k
+drained held {k} l elo ehi none before g kept =
+    let h = kept _ _ (ask none before g) in
     record {
       fault = λ e. held-asked held k l elo ehi (sym (refuted h e));
-      passes = λ e. (held-asked held k l elo ehi (sym (all_imply h e _ _ small small' h.asked)), idle h e);
+      passes = λ e. (held-asked held k l elo ehi (sym (all_imply h e _ _ g.m_small g.n_small h.asked)), idle h e);
     }

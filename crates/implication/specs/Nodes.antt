@@ -7,6 +7,7 @@ use Rattle.diagram.specs.Checks.{first_place, is_monotone_at}
 use Rattle.diagram.specs.Validity.{Formed}
 use Rattle.decoding.specs.declared.table.Decoded.{Decoded}
 use Rattle.decoding.specs.Decoding.{table_in, Held}
+use Rattle.implication.specs.declared.worklist.Pair.{Pair}
 
 -- The records that three arrays by node number hold, with room for 254
 unfoldable pub records_of : (positions high low : List ℕ) → List Record
@@ -86,22 +87,26 @@ pub record Met (met met' : List ℕ) (m n : ℕ) : Type 0 where
   pub kept : (p q : ℕ) → cell met p q ≡ 1 → cell met' p q ≡ 1
   pub others : (p q : ℕ) → p < 256 → q < 256 → ((p ≡ m) × (q ≡ n)) ⊎ (cell met' p q ≡ cell met p q)
 
--- The two nodes of the pair of the stack that has j others under it
-abbrev pub first_at : (stack : List ℕ) → (j : ℕ) → ℕ
-first_at stack j = get_or stack (j * 2) 0
+-- The pair that stands for none
+abbrev pub no_pair : Pair
+no_pair = record { first = record { 0 = 0 }; second = record { 0 = 0 } }
 
-abbrev pub second_at : (stack : List ℕ) → (j : ℕ) → ℕ
-second_at stack j = get_or stack (j * 2 + 1) 0
+-- The two nodes of the pair of the stack that has j others under it
+abbrev pub first_at : (stack : List Pair) → (j : ℕ) → ℕ
+first_at stack j = (get_or stack j no_pair).first.0
+
+abbrev pub second_at : (stack : List Pair) → (j : ℕ) → ℕ
+second_at stack j = (get_or stack j no_pair).second.0
 
 -- The stack has at most 62 pairs, so that there is room for one more
-pub record Room (met stack : List ℕ) (depth : ℕ) : Type 0 where
+pub record Room (met : List ℕ) (stack : List Pair) (depth : ℕ) : Type 0 where
   pub size : length met ≡ 1024
-  pub stack_size : length stack ≡ 128
+  pub stack_size : length stack ≡ 64
   pub shallow : depth ≤ 62
 
 -- The stack after the pair m, n is met: it is written on top where its cell was 0
-unfoldable pub pushed : (cell : ℕ) → (stack : List ℕ) → (depth m n : ℕ) → List ℕ
-pushed zero stack depth m n = set (set stack (depth * 2) m) (depth * 2 + 1) n
+unfoldable pub pushed : (cell : ℕ) → (stack : List Pair) → (depth m n : ℕ) → List Pair
+pushed zero stack depth m n = set stack depth (record { first = record { 0 = m }; second = record { 0 = n } })
 pushed (suc _) stack depth m n = stack
 
 -- Both pairs that m, n leads to have been met
@@ -110,7 +115,7 @@ pub record Expanded (ps hs ls met : List ℕ) (m n : ℕ) : Type 0 where
   pub low : cell met (next ps ls m n) (next ps ls n m) ≡ 1
 
 -- The pair m, n stands on the stack
-pub record Waits (stack : List ℕ) (depth m n : ℕ) : Type 0 where
+pub record Waits (stack : List Pair) (depth m n : ℕ) : Type 0 where
   pub slot : ℕ
   pub below : slot < depth
   pub first : first_at stack slot ≡ m
@@ -118,7 +123,7 @@ pub record Waits (stack : List ℕ) (depth m n : ℕ) : Type 0 where
 
 -- The stack of the pairs met: those on it are still to be expanded, as is the pair m, n that has been taken off last (0, 0 where
 -- there is none), a pair with j others under it stands at position j - 1 or later, and all pairs met imply if the pair a, b does
-pub record Stack (ps hs ls met stack : List ℕ) (a b m n depth : ℕ) : Type 0 where
+pub record Stack (ps hs ls met : List ℕ) (stack : List Pair) (a b m n depth : ℕ) : Type 0 where
   pub pairs : Pairs ps hs ls
   pub room : Room met stack depth
   pub asked : cell met a b ≡ 1
@@ -130,10 +135,10 @@ pub record Stack (ps hs ls met stack : List ℕ) (a b m n depth : ℕ) : Type 0 
   pub right : implies (end_of ps) (records_of ps hs ls) a b ≡ true → (p q : ℕ) → p < 256 → q < 256 → cell met p q ≡ 1 → implies (end_of ps) (records_of ps hs ls) p q ≡ true
 
 -- The stack is that of some pair a, b
-abbrev pub Started : (ps hs ls met stack : List ℕ) → (depth : ℕ) → Type 0
+abbrev pub Started : (ps hs ls met : List ℕ) → (stack : List Pair) → (depth : ℕ) → Type 0
 Started ps hs ls met stack depth = (a : ℕ) × (b : ℕ) × Stack ps hs ls met stack a b 0 0 depth
 
 -- The second stack is that of the same pair a, b as the first, whichever that is
-abbrev pub Kept : (ps hs ls met stack : List ℕ) → (depth : ℕ) → (met' stack' : List ℕ) → (depth' : ℕ) → Type 0
+abbrev pub Kept : (ps hs ls met : List ℕ) → (stack : List Pair) → (depth : ℕ) → (met' : List ℕ) → (stack' : List Pair) → (depth' : ℕ) → Type 0
 Kept ps hs ls met stack depth met' stack' depth' =
     (a b : ℕ) → Stack ps hs ls met stack a b 0 0 depth → Stack ps hs ls met' stack' a b 0 0 depth'

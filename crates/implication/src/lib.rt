@@ -2,5 +2,6 @@
 #![tactic(auto)]
 
 mod monotone;
+mod worklist;
 
 pub use monotone::monotone_fault;

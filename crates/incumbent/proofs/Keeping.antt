@@ -3,38 +3,14 @@ use Prim.Native.Nat.{ℕ, ◌+◌, ◌≤◌, ◌<◌}
 use native.Mathlib.Numerals.{add-one}
 use native.Mathlib.Omega.{arith}
 use mathlib.Core.Path.{◌≡◌, refl}
-use mathlib.Core.Bool.{Bool, true, false, cond, not, ◌||◌, or-false}
+use mathlib.Core.Bool.{Bool, false, cond, or-false}
 use mathlib.Core.List.{List}
-use lib.ListN.{length, get_or, set, drop, drop_of_length-le}
+use lib.ListN.{length, get_or, drop, drop_of_length-le}
 use lib.Dec.{eqb, ltb}
 use lib.Seq.{drop-cons}
-use borrow.Author.Tests.{le-ltb, eq-eqb, ne_eqb, not-true, not-false}
+use borrow.Author.Tests.{le-ltb, eq-eqb, ne_eqb}
 use Rattle.diagram.specs.Ranking.{takes_first}
 use Rattle.incumbent.specs.Ranks.{ranks_over}
-
--- ---------------------------------------------------------------------------
--- A visit's tests
-
--- without room a visit goes back
-pub back_dear : (room : ℕ) (x : Bool) → room ≡ 0 → true ≡ (eqb room 0 || x)
-back_dear room x e = rw (eq-eqb room 0 e) refl
-
--- with room the other test decides
-pub back_other : (room : ℕ) {r x : Bool} → (room ≡ 0 → ⊥) → r ≡ x → r ≡ (eqb room 0 || x)
-back_other room f e = rw (ne_eqb room 0 f) e
-
-module _ {A : Type 0} (x y : A) {r b : Bool} (e : r ≡ b) {z : A} where
-  -- where a test fails the second of two is kept
-  pub kept_old : not r ≡ true → z ≡ y → z ≡ cond b x y
-  kept_old h f = rw (← e, not-true r h) f
-
-  -- where it holds the first is
-  pub kept_new : not r ≡ false → z ≡ x → z ≡ cond b x y
-  kept_new h f = rw (← e, not-false r h) f
-
--- where it holds the bound and the room are written
-pub kept-numbers : {r b : Bool} → r ≡ b → not r ≡ false → (tally : List ℕ) {bound room x y : ℕ} → x ≡ bound → y ≡ room → set (set tally 0 x) 1 y ≡ cond b (set (set tally 0 bound) 1 room) tally
-kept-numbers e h tally f g = kept_new _ _ e h (rw (f, g) refl)
 
 -- ---------------------------------------------------------------------------
 -- The ranking of two plans

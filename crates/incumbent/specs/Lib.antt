@@ -1,3 +1,3 @@
 -- What a search holds, and the ranking of two plans by it.
 pub mod Ranks
-pub mod Tally
+pub mod Held

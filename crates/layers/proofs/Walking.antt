@@ -6,8 +6,9 @@ use native.Mathlib.Omega.{arith}
 use mathlib.Core.Path.{◌≡◌, refl, ◌∙◌}
 use mathlib.Core.Logic.{⊎_elim}
 use mathlib.Core.List.{List}
-use lib.ListN.{length, get_or, length-set}
-use Rattle.layers.specs.Layers.{Layers, Sized, flow_sum, inflow, put, cross_node, cross_nodes, CrossFits, own_node, own_nodes, OwnFits, drop_sum, leave_node, leave_nodes}
+use lib.ListN.{get_or}
+use Rattle.layers.specs.declared.arcs.LaidArcs.{LaidArcs}
+use Rattle.layers.specs.Layers.{Sized, flow_sum, inflow, put, cross_node, cross_nodes, own_node, own_nodes, drop_sum, leave_node, leave_nodes}
 
 -- ---------------------------------------------------------------------------
 -- What arcs bring
@@ -56,24 +57,23 @@ module _ (ss ws cells : List ℕ) (from : ℕ) where
       e ∙ rw end refl
 
 -- The arcs into a node are those between two starts
-module _ (l : Layers) {n i at end : ℕ} (cells : List ℕ) (sized : Sized l n) (less : i < n) (begins : at ≡ get_or l.starts i 0) (ends : end ≡ get_or l.starts (i + 1) 0) where
-  pub node_ready : inflow l cells i ≤ 2 ^ 56 → ((m : ℕ) × (end ≡ at + suc m + suc m)) × (end ≤ 1040) × ((j : ℕ) → get_or l.sources j 0 < 512) × (flow_sum l.sources l.arcs cells at (end - at) ≤ 2 ^ 56)
+module _ (l : LaidArcs) (cells : List ℕ) {i r from to : ℕ} (rank : r ≡ i) (begins : from ≡ get_or l.starts r 0) (ends : to ≡ get_or l.starts (r + 1) 0) where
+  -- they are pairs within the list, and what they bring fits
+  pub node_ready : ((n : ℕ) × Sized l n × (i < n)) → inflow l cells i ≤ 2 ^ 56 → ((m : ℕ) × (to ≡ from + suc m + suc m)) × (to ≤ 1040) × ((j : ℕ) → get_or l.sources j 0 < 512) × (flow_sum l.sources l.arcs cells from (to - from) ≤ 2 ^ 56)
   unfolding inflow
-  node_ready fits =
-      (rw (begins, ends) (sized.pairs i less), rw ends (sized.within (i + 1) (omega arith)), sized.sources, rw (begins, ends) fits)
+  node_ready ready fits =
+      let sized = ready.1 in
+      rw (begins, ends, rank) (sized.pairs i ready.2, sized.within (i + 1) (omega (arith, ready.2)), sized.sources, fits)
 
-  pub node_flow : {w : ℕ} → w ≡ flow_sum l.sources l.arcs cells at (end - at) → w ≡ inflow l cells i
+  -- what they bring is what comes to the node
+  pub node_flow : {w : ℕ} → w ≡ flow_sum l.sources l.arcs cells from (to - from) → w ≡ inflow l cells i
   unfolding inflow
-  node_flow e = rw (← begins, ← ends) e
-
--- a rank made of a number has the number's own start
-pub start-at : (starts : List ℕ) {r i x : ℕ} → r ≡ i → x ≡ get_or starts r 0 → x ≡ get_or starts i 0
-start-at starts same e = rw (← same) e
+  node_flow e = rw (begins, ends, rank) at e
 
 -- ---------------------------------------------------------------------------
 -- Nodes that hand on by both arcs
 
-module _ (l : Layers) (from : ℕ) (cells₀ : List ℕ) where
+module _ (l : LaidArcs) (from : ℕ) (cells₀ : List ℕ) where
   pub cross_none : cells₀ ≡ cross_nodes l from (from - from) cells₀
   unfolding cross_nodes
   cross_none = rw (sub_self from) refl
@@ -85,20 +85,10 @@ module _ (l : Layers) (from : ℕ) (cells₀ : List ℕ) where
       let here : from + (i - from) ≡ i = omega arith in
       rw (one, here, ← e, ← ew, ← er) e'
 
-  pub cross_fits : {i to : ℕ} {cells : List ℕ} → from ≤ i → i < to → CrossFits l from to cells₀ → cells ≡ cross_nodes l from (i - from) cells₀ → inflow l cells i ≤ 2 ^ 56
-  cross_fits {i} h less fits e =
-      let here : from + (i - from) ≡ i = omega arith in
-      rw e (rw here at (fits (i - from) (omega arith)))
-
-  pub cross_all : {i to : ℕ} {cells : List ℕ} → i ≤ to → to ≤ i → cells ≡ cross_nodes l from (i - from) cells₀ → cells ≡ cross_nodes l from (to - from) cells₀
-  cross_all {i} {to} h k e =
-      let end : i ≡ to = omega arith in
-      e ∙ rw end refl
-
 -- ---------------------------------------------------------------------------
 -- Nodes that hand on by their hi arcs, and what leaving them loses
 
-module _ (l : Layers) (from : ℕ) (cells₀ : List ℕ) where
+module _ (l : LaidArcs) (from : ℕ) (cells₀ : List ℕ) where
   pub own-none : cells₀ ≡ own_nodes l from (from - from) cells₀
   unfolding own_nodes
   own-none = rw (sub_self from) refl
@@ -109,16 +99,6 @@ module _ (l : Layers) (from : ℕ) (cells₀ : List ℕ) where
       let one : i + 1 - from ≡ suc (i - from) = omega arith in
       let here : from + (i - from) ≡ i = omega arith in
       rw (one, here, ← e, ← ew, ← er) e'
-
-  pub own-fits : {i to : ℕ} {cells : List ℕ} → from ≤ i → i < to → OwnFits l from to cells₀ → cells ≡ own_nodes l from (i - from) cells₀ → inflow l cells i ≤ 2 ^ 56
-  own-fits {i} h less fits e =
-      let here : from + (i - from) ≡ i = omega arith in
-      rw e (rw here at (fits (i - from) (omega arith)))
-
-  pub own-all : {i to : ℕ} {cells : List ℕ} → i ≤ to → to ≤ i → cells ≡ own_nodes l from (i - from) cells₀ → cells ≡ own_nodes l from (to - from) cells₀
-  own-all {i} {to} h k e =
-      let end : i ≡ to = omega arith in
-      e ∙ rw end refl
 
   module _ (losses : List ℕ) where
     pub drop-none : 0 ≡ drop_sum l losses from (from - from) cells₀
@@ -147,11 +127,6 @@ module _ (l : Layers) (from : ℕ) (cells₀ : List ℕ) where
     drop-fits {i} {to} h less fits e ew ed =
         rw (drop-next h e ew ed) (le_trans (drop-rises (i + 1 - from) (to - from) (omega arith)) fits)
 
-    pub drop_all : {i to d : ℕ} → i ≤ to → to ≤ i → d ≡ drop_sum l losses from (i - from) cells₀ → d ≡ drop_sum l losses from (to - from) cells₀
-    drop_all {i} {to} h k e =
-        let end : i ≡ to = omega arith in
-        e ∙ rw end refl
-
 -- ---------------------------------------------------------------------------
 -- Nodes of a line that is left
 
@@ -166,19 +141,3 @@ module _ (from : ℕ) (cells₀ : List ℕ) where
       let one : i + 1 - from ≡ suc (i - from) = omega arith in
       let here : from + (i - from) ≡ i = omega arith in
       rw (one, here, ← e, ← ew, ← er) e'
-
-  pub leave_all : {i to : ℕ} {cells : List ℕ} → i ≤ to → to ≤ i → cells ≡ leave_nodes from (i - from) cells₀ → cells ≡ leave_nodes from (to - from) cells₀
-  leave_all {i} {to} h k e =
-      let end : i ≡ to = omega arith in
-      e ∙ rw end refl
-
--- ---------------------------------------------------------------------------
--- Lengths
-
-pub put-length : (cells : List ℕ) (i x y : ℕ) → length (put cells i x y) ≡ length cells
-put-length cells i x y = simp length-set
-
-pub crossed_length : (l : Layers) (i n : ℕ) (cells : List ℕ) → length (cross_nodes l i n cells) ≡ length cells
-unfolding cross_nodes cross_node
-crossed_length l i zero cells = refl
-crossed_length l i (suc n) cells = simp length-set (crossed_length l i n cells)

@@ -26,8 +26,8 @@ use Rattle.ordering.specs.Chains.{joined, in_buffer, nodes_at, arcs_into, arcs_a
 use Rattle.layers.specs.Layers.{inflow}
 use Rattle.layout.specs.Weights.{into}
 use Rattle.layout.specs.Flows.{high_at, low_at, Layered}
-use Rattle.layout.specs.Weighed.{weights_kept, arc_cells, Laid, layers_in, by_rank}
-use Rattle.layout.specs.declared.weigh.LaidArcs.{LaidArcs}
+use Rattle.layout.specs.Weighed.{weights_kept, arc_cells, Laid, by_rank}
+use Rattle.layers.specs.declared.arcs.LaidArcs.{LaidArcs}
 use Rattle.layout.proofs.Numbering.{Numbered, numbered_all}
 use Rattle.layout.proofs.Summing.{arcs-sum}
 use Rattle.layout.proofs.Weighing.{weight-none, weight-high, weight-low, weight-root}
@@ -125,13 +125,13 @@ module _ {t : Table} {s : List ℕ} {n : ℕ} {ps hs ls ws ms : List ℕ} (marke
         root-brings k h = rw (root_weighs k h, numbered.roots k (omega (arith, entering.few)), one, entering.weight k h) (omega arith)
 
         -- what comes to a node, by the numbers of the records' arcs
-        inflow-numbers : (i : ℕ) → i < n → inflow (layers_in r) cells i ≡ root_weight t (get_or order i 0) (length t.roots) + into (λ k. (record_at t.records k).hi) (λ k. (record_at t.records k).lo) (λ k. get_or cells (get_or (arc_cells order n) (k + 2) 0) 0 * high_at t s k) (λ k. get_or cells (get_or (arc_cells order n) (k + 258) 0) 0 * low_at t s k) (get_or order i 0) n
+        inflow-numbers : (i : ℕ) → i < n → inflow r cells i ≡ root_weight t (get_or order i 0) (length t.roots) + into (λ k. (record_at t.records k).hi) (λ k. (record_at t.records k).lo) (λ k. get_or cells (get_or (arc_cells order n) (k + 2) 0) 0 * high_at t s k) (λ k. get_or cells (get_or (arc_cells order n) (k + 258) 0) 0 * low_at t s k) (get_or order i 0) n
         inflow-numbers i h =
             rw (← entering.all)
             (laid-inflow (λ i. arcs_into hs ls es n rs.count (get_or order i 0)) marked.size.1 (room_for_arcs es) numbered laid cells none_weighs i h ∙ arcs-sum hs ls es _ _ _ _ _ t (get_or order i 0) n rs.count (λ k l. (high_is marked k l, low-is marked k l, ap (λ (z : ℕ). get_or cells (get_or (arc_cells order n) (k + 2) 0) 0 * z) (high_weighs k l), ap (λ (z : ℕ). get_or cells (get_or (arc_cells order n) (k + 258) 0) 0 * z) (low_weighs k l))) (λ k l. (rooted k l, root-brings k l)))
 
         -- and by what the cells of the nodes before it hold
-        inflow-cells : (high low : ℕ → ℕ) (i : ℕ) → i < n → ((j k : ℕ) → j < i → get_or order j 0 ≡ k + 2 → (get_or cells (j + 2) 0 * high_at t s k ≡ high k) × (get_or cells (j + 258) 0 * low_at t s k ≡ low k)) → inflow (layers_in r) cells i ≡ root_weight t (get_or order i 0) (length t.roots) + into (λ k. (record_at t.records k).hi) (λ k. (record_at t.records k).lo) high low (get_or order i 0) n
+        inflow-cells : (high low : ℕ → ℕ) (i : ℕ) → i < n → ((j k : ℕ) → j < i → get_or order j 0 ≡ k + 2 → (get_or cells (j + 2) 0 * high_at t s k ≡ high k) × (get_or cells (j + 258) 0 * low_at t s k ≡ low k)) → inflow r cells i ≡ root_weight t (get_or order i 0) (length t.roots) + into (λ k. (record_at t.records k).hi) (λ k. (record_at t.records k).lo) high low (get_or order i 0) n
         unfolding node_position
         inflow-cells high low i h right =
             let terms =
@@ -148,7 +148,7 @@ module _ {t : Table} {s : List ℕ} {n : ℕ} {ps hs ls ws ms : List ℕ} (marke
             inflow-numbers i h ∙ rw terms refl
 
       -- the arrays are the layout
-      pub layered : {ns losses : List ℕ} → ns ≡ losses_of ls ws vs n → losses ≡ by_rank order ns n → Layered t s order (layers_in r) losses
+      pub layered : {ns losses : List ℕ} → ns ≡ losses_of ls ws vs n → losses ≡ by_rank order ns n → Layered t s order r losses
       layered en el =
           record {
             formed = marked.formed;

@@ -26,7 +26,8 @@ use Rattle.derivatives.specs.Drops.{is_of, value_loss}
 use Rattle.derivatives.proofs.Leaving.{open_taken-set, open_taken_lem, within-plan, choices-later}
 use Rattle.derivatives.proofs.Deriving.{is_false, open_within, open_zero}
 use Rattle.layout.specs.Weights.{path_weight, weight_sum}
-use Rattle.layers.specs.Layers.{Layers, inflow, put, cross_node, cross_nodes, own_node, own_nodes, drop_sum, leave_node, leave_nodes, Enterable}
+use Rattle.layers.specs.declared.arcs.LaidArcs.{LaidArcs}
+use Rattle.layers.specs.Layers.{inflow, put, cross_node, cross_nodes, own_node, own_nodes, drop_sum, leave_node, leave_nodes, Enterable}
 use Rattle.layout.specs.Flows.{high_at, low_at, Layered, rank_sum, at_sum, Line, Settles, Right, Same}
 use Rattle.layout.proofs.Weights.{weight_step, weight_local, weight-fits, drop-weights}
 
@@ -144,7 +145,7 @@ place-node t k =
     let e : k + 2 ≡ suc (suc k) = omega arith in
     rw e refl
 
-module _ {t : Table} {s order : List ℕ} {l : Layers} {losses : List ℕ} (layered : Layered t s order l losses) (u : List ℕ) where
+module _ {t : Table} {s order : List ℕ} {l : LaidArcs} {losses : List ℕ} (layered : Layered t s order l losses) (u : List ℕ) where
   -- where the cells of the first i nodes are right, the path weight of the node at rank i comes to it
   inflow-weight : {i : ℕ} {cells : List ℕ} → i < length t.records → get_or cells 1 0 ≡ 1 → Right t s u order i cells → inflow l cells i ≡ path_weight t u (node order i)
   unfolding node_position
@@ -276,7 +277,7 @@ module _ (t : Table) (s : List ℕ) (k : ℕ) where
   unfolding high_at low_at high_in_force low_in_force
   open_weights c o = rw (mark_of_lem, c, mark-number t s k, o) (refl, refl)
 
-module _ {t : Table} {s order : List ℕ} {l : Layers} {losses : List ℕ} (layered : Layered t s order l losses) {p : List ℕ} (settles : Settles s p) {from own to d : ℕ} (line : Line t s order from own to d) (lowest : lowest_open p ≡ d) (o : is_open p d ≡ true) (cells : List ℕ) (long : length cells ≡ 512) (rooted : get_or cells 1 0 ≡ 1) (right : Right t s (open_taken p) order from cells) where
+module _ {t : Table} {s order : List ℕ} {l : LaidArcs} {losses : List ℕ} (layered : Layered t s order l losses) {p : List ℕ} (settles : Settles s p) {from own to d : ℕ} (line : Line t s order from own to d) (lowest : lowest_open p ≡ d) (o : is_open p d ≡ true) (cells : List ℕ) (long : length cells ≡ 512) (rooted : get_or cells 1 0 ≡ 1) (right : Right t s (open_taken p) order from cells) where
   -- there are few records
   few : length t.records ≤ 254
   few = layered.sized.few
@@ -444,7 +445,6 @@ module _ {t : Table} {s order : List ℕ} {l : Layers} {losses : List ℕ} (laye
       record {
         sized = layered.sized;
         bounds = line.bounds;
-        long = long;
         crosses = λ i h. rw (walked_inflow layered (open_taken p) rooted (omega (arith, line.bounds)) (crossed i (omega arith))) (fits _);
         enters = λ i h. rw (walked_inflow layered (open_taken p) base-rooted (omega (arith, line.bounds)) (owned i (omega arith))) (fits _);
         drops = rw drop-sum drop-fits;

@@ -11,8 +11,8 @@ use Rattle.ordering.specs.Chains.{joined, paired, Joins, arcs_at}
 use Rattle.ordering.specs.declared.chains.Joined.{Joined}
 use Rattle.ordering.proofs.Joining.{buffer_at, list_sum, joined-suc, joined_mono, joined_at, joined_less, arcs_less, paired-pairs, paired-sum, paired_less, over_less}
 use Rattle.layers.specs.Layers.{Sized, inflow}
-use Rattle.layout.specs.Weighed.{arc_cells, Laid, layers_in}
-use Rattle.layout.specs.declared.weigh.LaidArcs.{LaidArcs}
+use Rattle.layout.specs.Weighed.{arc_cells, Laid}
+use Rattle.layers.specs.declared.arcs.LaidArcs.{LaidArcs}
 use Rattle.layout.proofs.Numbering.{Numbered}
 use Rattle.layout.proofs.Summing.{rank_list, flow_rank}
 
@@ -47,7 +47,7 @@ module _ (arcs : ℕ → List ℕ) {n : ℕ} {order weights : List ℕ} {r : Lai
   begins i h = rw laid.picked.starts (start_is room laid.joins i h)
 
   -- the layout is within its arrays
-  pub laid-sized : Sized (layers_in r) n
+  pub laid-sized : Sized r n
   laid-sized =
       record {
         few = few;
@@ -73,7 +73,7 @@ module _ (arcs : ℕ → List ℕ) {n : ℕ} {order weights : List ℕ} {r : Lai
         (ap brings (list-is room laid.joins at ∙ joined_at lists i n h j b))
 
     -- what comes to the node at a rank, where the number that no arc has weighs nothing
-    pub laid-inflow : get_or weights 0 0 ≡ 0 → (i : ℕ) → i < n → inflow (layers_in r) cells i ≡ list_sum brings (arcs i)
+    pub laid-inflow : get_or weights 0 0 ≡ 0 → (i : ℕ) → i < n → inflow r cells i ≡ list_sum brings (arcs i)
     unfolding inflow
     laid-inflow none i h =
         let none-brings : brings 0 ≡ 0 = rw none (omega arith) in

@@ -37,11 +37,6 @@ pub cells-next : (order : List ℕ) (i : ℕ) {m : ℕ} {cells cells' : List ℕ
 unfolding arc_cells
 cells-next order i e em e' = rw (add-one i, e', e, em) refl
 
-pub cells-all : (order : List ℕ) {i n : ℕ} {cells : List ℕ} → i ≤ n → n ≤ i → cells ≡ arc_cells order i → cells ≡ arc_cells order n
-cells-all order {i} {n} h l e =
-    let end : n ≡ i = omega arith in
-    rw end e
-
 -- the two cells of node n, which is read as m
 pub both_numbered : (l : List ℕ) {m n i j : ℕ} → m ≡ n → i ≡ j → set (set l m (i + 2)) (m + 256) (i + 258) ≡ set (set l n (j + 2)) (n + 256) (j + 258)
 both_numbered l e f = rw (e, f) refl

@@ -1,40 +1,38 @@
--- The loops that fill the arrays of weights, one turn more, and what these arrays hold. Assumes nothing.
-use Prim.Native.Nat.{ℕ, ◌+◌, ◌≤◌, ◌<◌}
+-- What the arrays of weights hold. Assumes nothing.
+use Prim.Native.Nat.{ℕ, ◌+◌, ◌-◌, ◌≤◌, ◌<◌}
 use native.Mathlib.Nat.{zero-add}
-use native.Mathlib.Numerals.{add-one}
 use native.Mathlib.Omega.{arith}
-use mathlib.Core.Path.{◌≡◌, refl, ap, ◌∙◌}
-use mathlib.Core.List.{List, [], ◌∷◌, ◌++◌}
-use lib.ListN.{length, get_or, set, take, drop, replicate, length-replicate, get_or-replicate, length-append, get_or-append}
+use mathlib.Core.Path.{◌≡◌, refl, ap, sym, ◌∙◌}
+use mathlib.Core.List.{List, ◌++◌}
+use lib.ListN.{length, get_or, take, drop, replicate, length-replicate, get_or-replicate, length-append, get_or-append}
 use lib.Seq.{get_or-append-add, get_or-take, length-take-le, sets, sets-eq}
 use Rattle.diagram.specs.Table.{sequence}
-use Rattle.diagram.proofs.Places.{sequence-length, sequence-at, sequence-snoc}
-use Rattle.ordering.proofs.Chaining.{sets_append}
+use borrow.Rule.Slice.PartMut.{put_mid}
+use Rattle.std.proofs.Common.{append_assoc, drop-drop}
+use Rattle.diagram.proofs.Places.{sequence-length, sequence-at, take-sequence}
+use Rattle.decoding.proofs.Standing.{list-sequence}
 use Rattle.ordering.specs.declared.chains.Joined.{Joined}
 use Rattle.weighing.specs.Weights.{arcs_over}
 use Rattle.weighing.proofs.ByArc.{arcs-length, arcs_other, arcs-high, arcs-low}
-use Rattle.layout.specs.Weighed.{Picked}
-use Rattle.layout.specs.declared.weigh.LaidArcs.{LaidArcs}
+use Rattle.weighing.specs.declared.roots.Roots.{Roots}
+use Rattle.layout.specs.Weighed.{brought_by, Picked}
+use Rattle.layers.specs.declared.arcs.LaidArcs.{LaidArcs}
 
 -- ---------------------------------------------------------------------------
 -- The weights of arcs
 
+-- the roots' weights are written as a part of the array
+pub roots_brought : (rs : Roots) (ws : List ℕ) → rs.count ≤ length rs.weights → 514 + rs.count ≤ length ws → {ys : List ℕ} → ys ≡ take rs.count rs.weights → put_mid 514 (514 + rs.count - 514) ws ys ≡ brought_by rs ws
+roots_brought rs ws own room e =
+    let weights = sequence (λ (i : ℕ). get_or rs.weights i 0) 0 rs.count in
+    let long : 514 + rs.count - 514 ≡ rs.count = omega arith in
+    let part : take rs.count rs.weights ≡ weights = ap (λ (l : List ℕ). take rs.count l) (sym (list-sequence rs.weights 0)) ∙ take-sequence _ 0 (length rs.weights) rs.count own in
+    let size : length weights ≡ rs.count = sequence-length _ 0 rs.count in
+    let ends : drop rs.count (drop 514 ws) ≡ drop (514 + rs.count) ws = drop-drop rs.count 514 ws in
+    rw (long, e, part, sets-eq weights ws 514 (rw size room), size, ends, append_assoc) refl
+
 -- the roots' weights, one after the other
 module _ (f : ℕ → ℕ) (old : List ℕ) where
-  pub bring_none : old ≡ sets old 514 (sequence f 0 0)
-  unfolding sequence
-  bring_none = refl
-
-  pub bring_next : {i x : ℕ} {cells : List ℕ} → cells ≡ sets old 514 (sequence f 0 i) → x ≡ f i → set cells (i + 514) x ≡ sets old 514 (sequence f 0 (i + 1))
-  bring_next {i} e ex =
-      let at : i + 514 ≡ 514 + length (sequence f 0 i) = omega (arith, sequence-length f 0 i) in
-      rw (add-one i, ← sequence-snoc f 0 i, zero-add i, sets_append old 514 (sequence f 0 i) (f i ∷ []), e, ex, at) refl
-
-  pub bring_all : {i n : ℕ} {cells : List ℕ} → i ≤ n → n ≤ i → cells ≡ sets old 514 (sequence f 0 i) → cells ≡ sets old 514 (sequence f 0 n)
-  bring_all {i} {n} h l e =
-      let end : i ≡ n = omega arith in
-      e ∙ rw end refl
-
   -- they stand at their numbers
   sets_at : {n : ℕ} → n ≤ 16 → length old ≡ 544 → sets old 514 (sequence f 0 n) ≡ take 514 old ++ sequence f 0 n ++ drop (514 + length (sequence f 0 n)) old
   sets_at {n} few long = sets-eq (sequence f 0 n) old 514 (omega (arith, sequence-length f 0 n))

@@ -10,7 +10,8 @@ use Rattle.derivatives.specs.Down.{root_weight}
 use Rattle.decoding.specs.Decoding.{Rooted}
 use Rattle.layout.specs.Weights.{path_weight, into}
 use Rattle.layers.specs.Cells.{high_cell, low_cell, root_cell}
-use Rattle.layers.specs.Layers.{Layers, Sized, inflow}
+use Rattle.layers.specs.declared.arcs.LaidArcs.{LaidArcs}
+use Rattle.layers.specs.Layers.{Sized, inflow}
 
 -- ---------------------------------------------------------------------------
 -- The plan handed in
@@ -34,7 +35,7 @@ pub record Stand (t : Table) (i x : ℕ) : Type 0 where
 -- The layout is that of table t and a search from plan s, with the nodes in `order`: those at smaller positions come before. What comes to a node is what
 -- the table's arcs bring, of which `high` and `low` say what they bring where the cells of the nodes before are right. The loss of an open line's record
 -- is what its value falls by.
-pub record Layered (t : Table) (s order : List ℕ) (l : Layers) (losses : List ℕ) : Type 0 where
+pub record Layered (t : Table) (s order : List ℕ) (l : LaidArcs) (losses : List ℕ) : Type 0 where
   pub formed : Formed (length t.variables) t.records
   pub shares : BoundedShares t.variables
   pub monotone : Monotone t

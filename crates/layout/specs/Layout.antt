@@ -9,7 +9,7 @@ use Rattle.weighing.specs.Weights.{table_arcs, roots_of}
 use Rattle.valuing.specs.Passes.{marks_by_position, losses_of}
 use Rattle.valuing.specs.Valued.{node_values}
 use Rattle.ordering.specs.Chains.{joined, in_buffer, beginnings, nodes_at}
-use Rattle.layers.specs.Layers.{Layers, layers_of}
+use Rattle.layers.specs.declared.arcs.LaidArcs.{LaidArcs}
 use Rattle.layout.specs.Flows.{Layered, rank_sum, at_sum}
 use Rattle.layout.specs.Weighed.{LaidTable, by_rank}
 use Rattle.layout.specs.declared.Layout.{Layout}
@@ -29,7 +29,7 @@ pub record Ending (t : Table) (order ends : List ℕ) : Type 0 where
   pub sums : (x : ℕ) → x < length t.variables → (f : ℕ → ℕ) → rank_sum (λ j. f (get_or order j 0)) (get_or ends x 0) (get_or ends (x + 1) 0 - get_or ends x 0) ≡ at_sum t f x (length t.records)
 
 -- The arrays hold table t, laid out for a search from plan p, whose bound it is
-pub record Arranged (t : Table) (p : List ℕ) (bound : ℕ) (ends order : List ℕ) (l : Layers) (losses : List ℕ) : Type 0 where
+pub record Arranged (t : Table) (p : List ℕ) (bound : ℕ) (ends order : List ℕ) (l : LaidArcs) (losses : List ℕ) : Type 0 where
   pub bounded : bound ≡ upper_bound t p
   pub layered : Layered t p order l losses
   pub ending : Ending t order ends
@@ -37,7 +37,7 @@ pub record Arranged (t : Table) (p : List ℕ) (bound : ℕ) (ends order : List 
 -- A layout is that of table t for a search from plan p
 pub record LaidOut (t : Table) (p : List ℕ) (l : Layout) : Type 0 where
   pub order : List ℕ
-  pub arranged : Arranged t p l.bound l.ends order (layers_of l.starts l.sources l.arcs) l.losses
+  pub arranged : Arranged t p l.bound l.ends order l.arcs l.losses
 
 -- The weights of a decoded table's arcs, by the arcs' numbers
 abbrev pub arc_weights : Decoded → List ℕ
@@ -52,5 +52,5 @@ node_losses d p =
 pub record EveryCell (d : Decoded) (p : List ℕ) (l : Layout) : Type 0 where
   pub bound : l.bound ≡ upper_bound (table_in d) p
   pub ends : l.ends ≡ beginnings (nodes_at d.positions d.records) d.variables
-  pub laid : LaidTable d (roots_of (table_in d)) (arc_weights d) (marks_by_position (table_in d).variables p) (nodes_in_order d) (record { starts = l.starts; sources = l.sources; arcs = l.arcs })
+  pub laid : LaidTable d (roots_of (table_in d)) (arc_weights d) (marks_by_position (table_in d).variables p) (nodes_in_order d) l.arcs
   pub losses : l.losses ≡ by_rank (nodes_in_order d) (node_losses d p) d.records

@@ -10,8 +10,7 @@ use Rattle.decoding.specs.declared.table.Decoded.{Decoded}
 use Rattle.ordering.specs.Numbers.{low_arc_of, root_arcs}
 use Rattle.ordering.specs.Chains.{Joins, arcs_at}
 use Rattle.ordering.specs.declared.chains.Joined.{Joined}
-use Rattle.layers.specs.Layers.{Layers, layers_of}
-use Rattle.layout.specs.declared.weigh.LaidArcs.{LaidArcs}
+use Rattle.layers.specs.declared.arcs.LaidArcs.{LaidArcs}
 
 -- The arcs into the node at rank i of a decoded table
 abbrev pub arcs_at_rank : Decoded → Roots → (order : List ℕ) → (i : ℕ) → List ℕ
@@ -62,10 +61,6 @@ pub record Laid (lists : ℕ → List ℕ) (n : ℕ) (order weights : List ℕ) 
 abbrev pub LaidTable : Decoded → Roots → (arcs marks order : List ℕ) → LaidArcs → Type 0
 LaidTable d rs ws ms order r =
     Laid (arcs_at_rank d rs order) d.records order (weights_kept d.positions ms ws d.records rs) r
-
--- The layout as a visit has it
-abbrev pub layers_in : LaidArcs → Layers
-layers_in r = layers_of r.starts r.sources r.arcs
 
 -- The losses of the first n nodes of an order, by rank, from those by node; zeros after
 abbrev pub by_rank : (order losses : List ℕ) → (n : ℕ) → List ℕ

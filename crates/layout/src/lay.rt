@@ -3,8 +3,9 @@ ghost use Rattle.std.specs.Prelude.{ℕ, ◌≤◌, ◌<◌, length, get_or};
 ghost use Rattle.ordering.specs.Chains.{joined};
 ghost use Rattle.layout.specs.Weighed.{arcs_at_rank, NodesWithin, LaidTable};
 
-use crate::weigh::{LaidArcs, number_cells, pick_arcs, weigh_roots};
+use crate::weigh::{number_cells, pick_arcs, weigh_roots};
 use decoding::Decoded;
+use layers::LaidArcs;
 use ordering::order_arcs;
 use valuing::in_force;
 use weighing::Roots;
@@ -13,16 +14,16 @@ use weighing::Roots;
 // weight, 0 where the marks close the arc. `arrange` hands in an accepted table, with its nodes as `order_records` puts them in
 // order.
 pub fn lay_arcs(
-    table: Decoded,
-    roots: Roots,
+    table: &Decoded,
+    roots: &Roots,
     arcs: &[u64; 544],
     marks: &[u8; 64],
     order: &[u16; 1040],
 ) -> LaidArcs
-    requires nodes { (table.records ≤ 254) × (roots.count ≤ 16) × NodesWithin table.records order.now }
-    requires positions { (k : ℕ) → get_or table.positions k 0 < 64 }
-    requires room { length (joined (arcs_at_rank table roots order.now) table.records) ≤ 1040 }
-    ensures { LaidTable table roots arcs.now marks.now order.now result }
+    requires nodes { (table.now.records ≤ 254) × (roots.now.count ≤ 16) × NodesWithin table.now.records order.now }
+    requires positions { (k : ℕ) → get_or table.now.positions k 0 < 64 }
+    requires room { length (joined (arcs_at_rank table.now roots.now order.now) table.now.records) ≤ 1040 }
+    ensures { LaidTable table.now roots.now arcs.now marks.now order.now result }
 {
     let listed = order_arcs(
         table.records,
@@ -36,5 +37,5 @@ pub fn lay_arcs(
     in_force(table.records, &table.positions, marks, arcs, &mut weights);
     weigh_roots(roots, &mut weights);
     let cells = number_cells(table.records, order);
-    pick_arcs(table.records, listed, &cells, &weights)
+    pick_arcs(table.records, &listed, &cells, &weights)
 }

@@ -2,7 +2,7 @@
 ghost use Rattle.std.specs.Prelude.{◌≡◌, ℕ, ◌≤◌, ◌<◌, length, get_or};
 ghost use Rattle.layout.specs.Weighed.{brought_by, NodesWithin, node_cells, arc_cells, Picked, by_rank};
 
-use layers::{HIGH_CELLS, LOW_CELLS, ROOT_CELL, Rank};
+use layers::{HIGH_CELLS, LOW_CELLS, LaidArcs, ROOT_CELL, Rank};
 use ordering::{Joined, LOW_OFFSET, ROOT_ARCS};
 use terms::Node;
 use weighing::Roots;
@@ -10,25 +10,13 @@ use weighing::Roots;
 // The cell that an arc starts from where it is no node's.
 const ROOT_SOURCE: u16 = ROOT_CELL as u16;
 
-// The arcs of a table laid out: by rank where the arcs into the node begin, and by index in the list of arcs the cell that the arc
-// starts from, and its weight.
-#[derive(Clone, Copy)]
-pub struct LaidArcs {
-    pub starts: [u16; 256],
-    pub sources: [u16; 1040],
-    pub arcs: [u64; 1040],
-}
-
 // The weights of the roots' arcs, each what comes to the root. There are at most 16: `lay_arcs` hands in an accepted table's.
-pub fn weigh_roots(roots: Roots, weights: &mut [u64; 544])
-    requires { (roots.count ≤ 16) × (length weights.old ≡ 544) }
-    ensures { weights.new ≡ brought_by roots weights.old }
+pub fn weigh_roots(roots: &Roots, weights: &mut [u64; 544])
+    requires { roots.now.count ≤ 16 }
+    ensures { weights.new ≡ brought_by roots.now weights.old }
 {
-    let mut i = 0;
-    while i < roots.count {
-        weights[i + ROOT_ARCS] = roots.weights[i];
-        i += 1;
-    }
+    let end = ROOT_ARCS + roots.count;
+    weights[ROOT_ARCS..end].copy_from_slice(&roots.weights[..roots.count]);
 }
 
 // The cells of the arcs of the first n nodes of the order, by the arcs' numbers; every other number has the cell of the roots'
@@ -38,19 +26,17 @@ pub fn number_cells(n: usize, order: &[u16; 1040]) -> [u16; 544]
     ensures { result ≡ arc_cells order.now n }
 {
     let mut cells = [ROOT_SOURCE; 544];
-    let mut i = 0;
-    while i < n {
+    for i in 0..n {
         let rank = Rank::new(i);
         let node = node_at(order, rank);
         number_node(&mut cells, node, rank);
-        i += 1;
     }
     cells
 }
 
 // Writes the cells of the arcs of the node at a rank.
 fn number_node(cells: &mut [u16; 544], node: Node, rank: Rank)
-    requires { (rank.0 < 254) × (length cells.old ≡ 544) }
+    requires { rank.0 < 254 }
     ensures { cells.new ≡ node_cells cells.old node.0 rank.0 }
 {
     let m = node.number();
@@ -61,22 +47,20 @@ fn number_node(cells: &mut [u16; 544], node: Node, rank: Rank)
 
 // For each arc of a list the cell that it starts from and its weight, beside where the arcs into each of n nodes begin. The list has
 // arcs' numbers alone, as `order_arcs` leaves it.
-pub fn pick_arcs(n: usize, listed: Joined, cells: &[u16; 544], weights: &[u64; 544]) -> LaidArcs
-    requires { (n ≤ 254) × (get_or listed.starts n 0 ≤ 1040) × ((j : ℕ) → get_or listed.list j 0 < 544) }
-    ensures { Picked n listed cells.now weights.now result }
+pub fn pick_arcs(n: usize, listed: &Joined, cells: &[u16; 544], weights: &[u64; 544]) -> LaidArcs
+    requires { (n ≤ 254) × (get_or listed.now.starts n 0 ≤ 1040) × ((j : ℕ) → get_or listed.now.list j 0 < 544) }
+    ensures { Picked n listed.now cells.now weights.now result }
 {
     let mut made = LaidArcs {
         starts: listed.starts,
         sources: [0u16; 1040],
         arcs: [0u64; 1040],
     };
-    let count = listed.starts[n] as usize;
-    let mut j = 0;
-    while j < count {
-        let a = listed.list[j] as usize;
+    let count = usize::from(listed.starts[n]);
+    for j in 0..count {
+        let a = usize::from(listed.list[j]);
         made.sources[j] = cells[a];
         made.arcs[j] = weights[a];
-        j += 1;
     }
     made
 }
@@ -88,11 +72,9 @@ pub fn losses_by_rank(n: usize, order: &[u16; 1040], losses: &[u64; 256]) -> [u6
     ensures { result ≡ by_rank order.now losses.now n }
 {
     let mut by_rank = [0u64; 256];
-    let mut i = 0;
-    while i < n {
+    for i in 0..n {
         let m = node_at(order, Rank::new(i)).number();
         by_rank[i] = losses[m];
-        i += 1;
     }
     by_rank
 }

@@ -1,3 +1,3 @@
 -- Laws of open lines.
 pub mod Listed
-pub mod RankedLines
+pub mod LaidLines

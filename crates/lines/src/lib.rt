@@ -1,12 +1,8 @@
-// The open lines of a search: their numbers, and in one array, by how many lines are unsettled when a line is the lowest of them, its
-// number, its kits and the ranks of its layer.
+// The open lines of a search, the lowest first: their numbers, their kits and the ranks of their layers.
 #![tactic(auto)]
 
-mod columns;
+mod lay;
 mod open;
-mod read;
-mod write;
 
+pub use lay::{Line, lay_lines};
 pub use open::{OpenLines, open_lines};
-pub use read::{layer_of, line_kits, mark_line};
-pub use write::write_lines;

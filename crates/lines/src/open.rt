@@ -18,16 +18,13 @@ pub fn open_lines(plan: Plan) -> OpenLines
     ensures numbers { result.numbers ≡ pad_to 20 (open_lines (rows plan)) }
     ensures count { result.count ≡ length (open_lines (rows plan)) }
 {
-    let n = plan.count;
     let mut numbers = [0u8; 20];
     let mut count = 0;
-    let mut i = 0;
-    while i < n {
+    for i in 0..plan.count {
         if plan.marks[i] == Plan::OPEN {
             numbers[count] = i as u8;
             count += 1;
         }
-        i += 1;
     }
     OpenLines { numbers, count }
 }

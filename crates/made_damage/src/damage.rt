@@ -1,5 +1,5 @@
 // Damage to a table: another length, another field of a word, children exchanged, another bit.
-use made_files::{File, Word, draw, fork, minus, once_in, over, plus, times};
+use made_files::{File, Kind, Word, draw, fork, once_in, plus, times};
 
 // Values that a field may be set to: the limits of documents 01 and 02 and the numbers beside them.
 const VALUES: [usize; 19] = [
@@ -12,34 +12,33 @@ const LENGTHS: [usize; 16] = [
 ];
 
 // A table with one damage, or with two.
-pub fn damaged(file: File, seed: usize) -> File {
-    let one = with_damage(file, fork(seed, 1));
-    if draw(seed, 2, 4) == 0 {
-        with_damage(one, fork(seed, 3))
-    } else {
-        one
+pub fn damaged(mut file: File, seed: usize) -> File {
+    damage(&mut file, fork(seed, 1));
+    if once_in(seed, 2, 4) {
+        damage(&mut file, fork(seed, 3));
     }
+    file
 }
 
-// A table with one damage.
-fn with_damage(file: File, seed: usize) -> File {
+// Does one damage to a table.
+fn damage(file: &mut File, seed: usize) {
     let way = draw(seed, 4, 20);
     match way {
-        0 => file.sized(length(file, seed)),
-        1 => with_heading(file, seed),
-        2 => with_field(file, seed, 0),
-        3 | 4 => exchanged(file, record_word(file, seed)),
-        5..=8 => flipped(file, seed),
-        9..=11 => with_field(file, seed, variable_word(file, seed)),
-        12 => with_scale(file, variable_word(file, seed)),
-        13 | 14 => with_field(file, seed, root_word(file, seed)),
-        15 => without_root(file, seed),
-        _ => with_field(file, seed, record_word(file, seed)),
+        0 => file.size = length(file, seed),
+        1 => change_heading(file, seed),
+        2 => change_field(file, seed, 0),
+        3 | 4 => exchange(file, record_word(file, seed)),
+        5..=8 => flip(file, seed),
+        9..=11 => change_field(file, seed, variable_word(file, seed)),
+        12 => enlarge_scale(file, variable_word(file, seed)),
+        13 | 14 => change_field(file, seed, root_word(file, seed)),
+        15 => drop_root(file, seed),
+        _ => change_field(file, seed, record_word(file, seed)),
     }
 }
 
-// The file with a heading beyond the limits, or with one variable, record or root word more or less than there are.
-fn with_heading(file: File, seed: usize) -> File {
+// Sets the heading beyond the limits, or to one variable, record or root word more or less than there are.
+fn change_heading(file: &mut File, seed: usize) {
     let mut w = file.word(0);
     let way = draw(seed, 12, 10);
     match way {
@@ -49,26 +48,26 @@ fn with_heading(file: File, seed: usize) -> File {
         3 => w.q = 0,
         4 => w.q = 255,
         5 => w.q = plus(w.q, 1),
-        6 => w.q = minus(w.q, 1),
+        6 => w.q = w.q.saturating_sub(1),
         7 => w.r = 17,
-        8 => w.r = minus(w.r, 1),
+        8 => w.r = w.r.saturating_sub(1),
         _ => w.r = plus(w.r, 1),
     }
-    file.with_word(0, w)
+    file.set_word(0, w);
 }
 
 // The word of a variable.
-fn variable_word(file: File, seed: usize) -> usize {
+fn variable_word(file: &File, seed: usize) -> usize {
     plus(1, draw(seed, 5, file.variables()))
 }
 
 // The word of a record.
-fn record_word(file: File, seed: usize) -> usize {
+fn record_word(file: &File, seed: usize) -> usize {
     plus(1, plus(file.variables(), draw(seed, 6, file.records())))
 }
 
 // A root word, or the last record where there is none.
-fn root_word(file: File, seed: usize) -> usize {
+fn root_word(file: &File, seed: usize) -> usize {
     let n = file.roots();
     if n == 0 {
         return file.at_node(plus(file.records(), 1));
@@ -76,101 +75,77 @@ fn root_word(file: File, seed: usize) -> usize {
     file.at_root(draw(seed, 13, n))
 }
 
-// The file without its last root word, or with that word in place of the one before it.
-fn without_root(file: File, seed: usize) -> File {
-    let n = minus(file.roots(), 1);
+// Takes the last root word away, or puts it in place of the one before it.
+fn drop_root(file: &mut File, seed: usize) {
+    let n = file.roots().saturating_sub(1);
     if once_in(seed, 14, 2) {
-        return file.counting(n);
+        file.set_roots(n);
+    } else {
+        let last = file.word(file.at_root(n));
+        file.set_word(file.at_root(n.saturating_sub(1)), last);
     }
-    file.with_word(file.at_root(minus(n, 1)), file.word(file.at_root(n)))
 }
 
 // A length beside the right one, or one of those at the limits.
-fn length(file: File, seed: usize) -> usize {
+fn length(file: &File, seed: usize) -> usize {
     let d = draw(seed, 7, 28);
-    if d < 16 {
-        return LENGTHS[d];
+    match LENGTHS.get(d) {
+        Some(length) => *length,
+        None => plus(file.size, d.saturating_sub(16)).saturating_sub(6),
     }
-    minus(plus(file.size, minus(d, 16)), 6)
 }
 
-// The file with one field of a word changed; the last way sets a of a chance by its b.
-fn with_field(file: File, seed: usize, i: usize) -> File {
+// Changes one field of a word; the last way sets a of a chance by its b.
+fn change_field(file: &mut File, seed: usize, i: usize) {
     let mut w = file.word(i);
+    // the node of the word, if it is a record
+    let node = plus(i, 1).saturating_sub(file.variables());
     let field = draw(seed, 8, 5);
     match field {
         0 => w.kind = value(seed, w.kind, i),
         1 => w.p = value(seed, w.p, file.variables()),
-        2 => w.q = value(seed, w.q, own_node(file, i)),
-        3 => w.r = value(seed, w.r, own_node(file, i)),
-        _ => w.q = value(seed, w.r, own_node(file, i)),
+        2 => w.q = value(seed, w.q, node),
+        3 => w.r = value(seed, w.r, node),
+        _ => w.q = value(seed, w.r, node),
     }
-    file.with_word(i, w)
-}
-
-// The node of a word, if it is a record.
-fn own_node(file: File, i: usize) -> usize {
-    minus(plus(i, 1), file.variables())
+    file.set_word(i, w);
 }
 
 // A value in place of an old one.
 fn value(seed: usize, old: usize, other: usize) -> usize {
     let d = draw(seed, 9, 33);
-    if d < 19 {
-        return VALUES[d];
+    if let Some(value) = VALUES.get(d) {
+        return *value;
     }
     match d {
         19..=21 => plus(old, 1),
-        22 | 23 => minus(old, 1),
+        22 | 23 => old.saturating_sub(1),
         24 | 25 => other,
         26 => plus(other, 1),
-        27 => minus(other, 1),
+        27 => other.saturating_sub(1),
         _ => draw(seed, 10, 2048),
     }
 }
 
-// The file with the children of a record exchanged.
-fn exchanged(file: File, i: usize) -> File {
+// Exchanges the children of a record.
+fn exchange(file: &mut File, i: usize) {
     let w = file.word(i);
-    file.with_word(i, Word::record(w.p, w.r, w.q))
+    file.set_word(i, Word::new(Kind::Record, w.p, w.r, w.q));
 }
 
-// The file with the b of a chance one larger, which brings some products above 2^56.
-fn with_scale(file: File, i: usize) -> File {
+// Makes the b of a chance one larger, which brings some products above 2^56.
+fn enlarge_scale(file: &mut File, i: usize) {
     let mut w = file.word(i);
-    if w.kind == Word::CHANCE {
+    if w.is(Kind::Chance) {
         w.r = plus(w.r, 1);
+        file.set_word(i, w);
     }
-    file.with_word(i, w)
 }
 
-// The file with one bit changed.
-fn flipped(file: File, seed: usize) -> File {
+// Changes one bit.
+fn flip(file: &mut File, seed: usize) {
     let bit = draw(seed, 11, times(8, file.size));
-    let power = power(bit % 8);
-    let at = bit / 8;
-    let b = file.byte(at);
-    let held = over(b, power) % 2;
-    file.with_byte(
-        at,
-        if held == 0 {
-            plus(b, power)
-        } else {
-            minus(b, power)
-        },
-    )
-}
-
-// A power of two.
-fn power(n: usize) -> usize {
-    match n {
-        0 => 1,
-        1 => 2,
-        2 => 4,
-        3 => 8,
-        4 => 16,
-        5 => 32,
-        6 => 64,
-        _ => 128,
+    if let Some(byte) = file.bytes.get_mut(bit / 8) {
+        *byte ^= 1 << (bit % 8);
     }
 }

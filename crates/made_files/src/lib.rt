@@ -5,8 +5,10 @@ mod draws;
 mod file;
 mod marks;
 mod numbers;
+mod words;
 
-pub use draws::{draw, fork, larger, least, minus, once_in, over, plus, times};
-pub use file::{File, Word};
+pub use draws::{draw, fork, once_in, plus, times};
+pub use file::File;
 pub use marks::Marks;
 pub use numbers::{kits, lent, percentage, ratio};
+pub use words::{Kind, Word};

@@ -1,7 +1,8 @@
-// Plans in the making, and buffers for them.
-ghost use Rattle.made_files.specs.Counts.{IsPrefixLen};
+// Plans in the making.
+ghost use Rattle.std.specs.Prelude.{◌≡◌, take};
 
-use crate::draws::{draw, fork, least, once_in, plus};
+use crate::draws::{draw, fork, once_in, plus};
+use std::array;
 
 // The marks of a plan, of which the first `count` count.
 #[derive(Clone, Copy)]
@@ -11,14 +12,6 @@ pub struct Marks {
 }
 
 impl Marks {
-    // A buffer to be lent, in which every byte is 7.
-    pub fn untouched(count: usize) -> Marks {
-        Marks {
-            marks: [7; 32],
-            count,
-        }
-    }
-
     // A plan with some lines open: all, most, some or none. Now and then its length is wrong, or one of its marks.
     pub fn drawn(seed: usize, choices: usize) -> Marks {
         let count = if once_in(seed, 1, 24) {
@@ -28,75 +21,49 @@ impl Marks {
         };
         let way = draw(seed, 3, 10);
         let mut plan = Marks {
-            marks: [0; 32],
+            marks: array::from_fn(|i| mark(fork(seed, plus(i, 4)), way)),
             count,
         };
-        let mut i = 0;
-        while i < 32 {
-            plan = plan.marked(i, mark(fork(seed, plus(i, 4)), way));
-            i += 1;
-        }
         if once_in(seed, 40, 24) {
-            return plan.marked(draw(seed, 41, choices), wrong(seed));
+            plan.set(draw(seed, 41, choices), wrong(seed));
         }
         plan
     }
 
-    // The plan with another mark.
-    fn marked(mut self, i: usize, mark: usize) -> Marks {
-        if i < 32 {
-            self.marks[i] = (mark % 256) as u8;
+    // Sets a mark, where there is one.
+    fn set(&mut self, i: usize, mark: u8) {
+        if let Some(old) = self.marks.get_mut(i) {
+            *old = mark;
         }
-        self
     }
 
     // The plan with each open line taken or left, now and then with one of them still open.
-    pub fn completed(self, seed: usize) -> Marks {
-        let mut plan = self;
-        let mut i = 0;
-        while i < 32 {
-            plan = plan.settled(i, plus(1, draw(seed, i, 2)));
-            i += 1;
+    pub fn completed(&self, seed: usize) -> Marks {
+        let mut plan = *self;
+        for (i, mark) in plan.marks.iter_mut().enumerate() {
+            if *mark == 0 {
+                *mark = if once_in(seed, i, 2) { 1 } else { 2 };
+            }
         }
         if once_in(seed, 42, 24) {
-            return plan.marked(draw(seed, 43, self.count), 0);
+            plan.set(draw(seed, 43, self.count), 0);
         }
         plan
     }
 
-    // The plan with a mark for a line that is open.
-    fn settled(self, i: usize, mark: usize) -> Marks {
-        if i < 32 {
-            if self.marks[i] == 0 {
-                return self.marked(i, mark);
-            }
-        }
-        self
-    }
-
-    // 1 for a line that is taken, else 0.
-    pub fn taken(self, i: usize) -> usize {
-        if i < 32 {
-            if self.marks[i] == 1 {
-                return 1;
-            }
-        }
-        0
-    }
-
-    // How many marks count, as many as there are.
-    pub fn length(self) -> usize
-        ensures { IsPrefixLen result self.marks }
+    // The marks that count.
+    pub fn as_slice(&self) -> &[u8]
+        ensures { result.now ≡ take self.now.count self.now.marks }
     {
-        least(self.count, 32)
+        &self.marks[..self.count.min(32)]
     }
 }
 
 // A mark of a plan in which none of the lines are open, some, most or all.
-fn mark(seed: usize, way: usize) -> usize {
-    let any = draw(seed, 1, 3);
+fn mark(seed: usize, way: usize) -> u8 {
+    let any = (draw(seed, 1, 3) % 256) as u8;
     match way {
-        0 => plus(1, draw(seed, 3, 2)),
+        0 => if once_in(seed, 3, 2) { 1 } else { 2 },
         1 | 2 => any,
         3..=5 => if once_in(seed, 2, 4) { any } else { 0 },
         _ => 0,
@@ -104,10 +71,10 @@ fn mark(seed: usize, way: usize) -> usize {
 }
 
 // A mark above 2.
-fn wrong(seed: usize) -> usize {
+fn wrong(seed: usize) -> u8 {
     if once_in(seed, 44, 2) {
         3
     } else {
-        plus(3, draw(seed, 45, 253))
+        (plus(3, draw(seed, 45, 253)) % 256) as u8
     }
 }

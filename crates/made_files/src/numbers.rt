@@ -1,5 +1,5 @@
 // The numbers that come with a request: the size of the lent buffer, the kits and the percentage.
-use crate::draws::{draw, minus, once_in, plus};
+use crate::draws::{draw, once_in, plus};
 
 // The size of the lent buffer, now and then a wrong one.
 pub fn lent(seed: usize, choices: usize) -> usize {
@@ -21,7 +21,7 @@ pub fn kits(seed: usize, choices: usize, cost: usize) -> u32 {
         4..=7 => draw(seed, 9, 23),
         8..=11 => draw(seed, 10, plus(choices, 2)),
         12..=15 => draw(seed, 16, plus(cost, 2)),
-        _ => minus(plus(cost, draw(seed, 17, 3)), 1),
+        _ => plus(cost, draw(seed, 17, 3)).saturating_sub(1),
     };
     (n % 4294967296) as u32
 }
@@ -30,7 +30,7 @@ pub fn kits(seed: usize, choices: usize, cost: usize) -> u32 {
 pub fn percentage(seed: usize, percent: u32) -> u32 {
     let way = draw(seed, 11, 32);
     match way {
-        0 => 4294967295,
+        0 => u32::MAX,
         1 => 101,
         2 => (draw(seed, 12, 106) % 4294967296) as u32,
         3 => (draw(seed, 12, 101) % 4294967296) as u32,
@@ -53,15 +53,13 @@ fn below(percent: u32, way: usize) -> u32 {
 fn beside(percent: u32, way: usize) -> u32 {
     match way {
         0 => percent % 1000 + 1,
-        1 => if 0 < percent { percent - 1 } else { 0 },
+        1 => percent.saturating_sub(1),
         _ => percent,
     }
 }
 
 // The percentage that a score is of B, cut to a whole number, or 50 where B is 0.
 pub fn ratio(x: u64, scale: u64) -> u32 {
-    if scale == 0 {
-        return 50;
-    }
-    (x % 72057594037927937 * 100 / scale % 4294967296) as u32
+    let hundredfold = x % 72057594037927937 * 100;
+    (hundredfold.checked_div(scale).unwrap_or(50) % 4294967296) as u32
 }

@@ -2,7 +2,6 @@
 #![tactic(auto)]
 
 mod ladders;
-mod records;
 mod tables;
 mod wide_tables;
 

@@ -1,42 +1,41 @@
 // Tables of up to 60 variables, 254 records and 16 root words, with too many choices, too large a product, or neither. One record
 // or the last root word of each is wrong, so that none is accepted.
-use crate::records::with_records;
-use made_files::{File, Word, draw, fork, minus, once_in, plus};
-use made_words::{WIDE, with_roots, with_variables, wrong};
+use made_files::{File, Kind, Word, draw, fork, once_in, plus};
+use made_words::{add_roots, wide_variable, wrong};
 
+// A table whose records, but for the wrong one, are all alike.
 pub fn wide(seed: usize) -> File {
-    let v = minus(60, draw(seed, 1, 40));
-    let n = minus(254, draw(seed, 2, 254));
-    let varied = with_variables(File::started(v, n), fork(seed, 3), WIDE);
-    let made = with_records(varied, seed, WIDE);
-    let rooted = with_roots(made, fork(seed, 5));
+    let v = 60usize.saturating_sub(draw(seed, 1, 40));
+    let n = 254usize.saturating_sub(draw(seed, 2, 254));
+    let mut file = File::started(v, n);
+    file.set_variables(|file, p| wide_variable(file, fork(seed, 3), p));
+    file.set_records(|_, _| Word::new(Kind::Record, 0, 1, 0));
+    add_roots(&mut file, fork(seed, 5));
     if once_in(seed, 6, 2) {
-        with_wrong_root(rooted, fork(seed, 7))
+        set_wrong_root(&mut file, fork(seed, 7));
     } else {
-        with_fault(rooted, fork(seed, 4))
+        set_fault(&mut file, fork(seed, 4));
     }
+    file
 }
 
-// The file with a wrong root word, in place of the last one, or alone.
-fn with_wrong_root(file: File, seed: usize) -> File {
-    let last = minus(file.roots(), 1);
-    let counted = file.counting(plus(last, 1));
-    let w = Word::root(plus(1, draw(seed, 8, 64)), 2);
-    counted.with_word(
-        counted.at_root(last),
-        wrong(w, fork(seed, 9), counted.records()),
-    )
+// Puts a wrong root word in place of the last one, or alone.
+fn set_wrong_root(file: &mut File, seed: usize) {
+    let last = file.roots().saturating_sub(1);
+    file.set_roots(plus(last, 1));
+    let w = Word::new(Kind::Root, 0, plus(1, draw(seed, 8, 64)), 2);
+    file.set_word(file.at_root(last), wrong(w, fork(seed, 9), file.records()));
 }
 
-// The file with one record that is wrong.
-fn with_fault(file: File, seed: usize) -> File {
+// Makes one record wrong.
+fn set_fault(file: &mut File, seed: usize) {
     let node = plus(2, draw(seed, 10, file.records()));
     let way = draw(seed, 11, 4);
     let w = match way {
-        0 => Word::chance(0, 1, 0),
-        1 => Word::record(plus(file.variables(), 3), 1, 0),
-        2 => Word::record(0, node, 0),
-        _ => Word::record(0, 1, node),
+        0 => Word::new(Kind::Chance, 0, 1, 0),
+        1 => Word::new(Kind::Record, plus(file.variables(), 3), 1, 0),
+        2 => Word::new(Kind::Record, 0, node, 0),
+        _ => Word::new(Kind::Record, 0, 1, node),
     };
-    file.with_word(file.at_node(node), w)
+    file.set_word(file.at_node(node), w);
 }

@@ -4,5 +4,5 @@
 mod roots;
 mod variables;
 
-pub use roots::{with_roots, wrong};
-pub use variables::{LINES, MIXED, WIDE, with_variables};
+pub use roots::{add_roots, wrong};
+pub use variables::{line_or_event, variable, wide_variable};

@@ -1,59 +1,32 @@
-// The variable words of a table.
-use made_files::{File, Word, draw, fork, least, minus, once_in, plus};
-
-// The kinds of tables by their variables and their records: a mixed table, a wide one, and one that is mostly lines.
-pub const MIXED: u8 = 0;
-
-pub const WIDE: u8 = 1;
-
-pub const LINES: u8 = 2;
-
-// The file with its variable words, in a table of a kind.
-pub fn with_variables(file: File, seed: usize, kind: u8) -> File {
-    let v = file.variables();
-    let mut now = file;
-    let mut p = 0;
-    while p < v {
-        now = now.with_word(plus(1, p), variable_of(kind, now, seed, p));
-        p += 1;
-    }
-    now
-}
-
-fn variable_of(kind: u8, file: File, seed: usize, p: usize) -> Word {
-    match kind {
-        MIXED => variable(file, seed, p),
-        WIDE => wide_variable(file, seed, p),
-        _ => line_or_event(file, seed, p),
-    }
-}
+// The variable words of a table: of a mixed one, of a wide one, and of one that is mostly lines.
+use made_files::{File, Kind, Word, draw, fork, once_in, plus};
 
 // A variable of a table that is mostly lines, as long as there are fewer than six. In half of these events are certain.
-fn line_or_event(file: File, seed: usize, p: usize) -> Word {
+pub fn line_or_event(file: &File, seed: usize, p: usize) -> Word {
     if draw(fork(seed, p), 8, 5) < 4 && file.choices() < 6 {
         return line(seed, p);
     }
     if once_in(seed, 29, 2) {
-        return Word::chance(p, 1, 1);
+        return Word::new(Kind::Chance, p, 1, 1);
     }
     variable(file, seed, p)
 }
 
-// The variable at a position: a choice, as long as there are fewer than six, or a chance, as the last one mostly is.
-fn variable(file: File, seed: usize, p: usize) -> Word {
+// The variable at a position of a mixed table: a choice, as long as there are fewer than six, or a chance, as the last one mostly is.
+pub fn variable(file: &File, seed: usize, p: usize) -> Word {
     let last = plus(p, 1) == file.variables();
     let odds = if last { 1 } else { plus(1, draw(seed, 7, 4)) };
     if draw(fork(seed, p), 8, 5) < odds && file.choices() < 6 {
         return line(seed, p);
     }
     let b = scale(file, seed, p);
-    Word::chance(p, share(seed, p, b), b)
+    Word::new(Kind::Chance, p, share(fork(seed, p), b), b)
 }
 
 // A choice, now and then with an R or a Q that is wrong.
 fn line(seed: usize, p: usize) -> Word {
     let own = fork(seed, p);
-    let mut w = Word::choice(p, kits_less_one(draw(seed, 21, 8), own));
+    let mut w = Word::new(Kind::Choice, p, 0, kits_less_one(draw(seed, 21, 8), own));
     let fault = draw(own, 22, 600);
     match fault {
         0 => w.r = 501,
@@ -73,22 +46,23 @@ fn kits_less_one(way: usize, own: usize) -> usize {
         _ => if once_in(own, 26, 2) {
             draw(own, 27, 3)
         } else {
-            minus(500, draw(own, 28, 3))
+            500usize.saturating_sub(draw(own, 28, 3))
         },
     }
 }
 
 // The b of a chance. The product of as many as there are variables is at most 2^56.
-fn scale(file: File, seed: usize, p: usize) -> usize {
+fn scale(file: &File, seed: usize, p: usize) -> usize {
     let most = most_scale(file.variables());
+    let own = fork(seed, p);
     let way = draw(seed, 9, 6);
     match way {
         0 => 2,
         1 => 10,
         2 => most,
-        3 => percentage(draw(fork(seed, p), 10, 6), most),
-        4 => plus(1, draw(fork(seed, p), 11, 10)),
-        _ => plus(1, draw(fork(seed, p), 12, most)),
+        3 => percentage(draw(own, 10, 6), most),
+        4 => plus(1, draw(own, 11, 10)),
+        _ => plus(1, draw(own, 12, most)),
     }
 }
 
@@ -111,29 +85,30 @@ fn percentage(way: usize, most: usize) -> usize {
         1 => 4,
         2 => 5,
         3 => 20,
-        4 => least(100, most),
+        4 => most.min(100),
         _ => 10,
     }
 }
 
 // The a of a chance: now and then certain one way or the other, and often the half.
-fn share(seed: usize, p: usize, b: usize) -> usize {
-    let way = draw(fork(seed, p), 13, 8);
+fn share(own: usize, b: usize) -> usize {
+    let way = draw(own, 13, 8);
     match way {
-        0 => if once_in(fork(seed, p), 20, 2) { 0 } else { b },
+        0 => if once_in(own, 20, 2) { 0 } else { b },
         1..=3 => b / 2,
-        _ => draw(fork(seed, p), 14, plus(b, 1)),
+        _ => draw(own, 14, plus(b, 1)),
     }
 }
 
 // A variable of a wide table. In half of these there are at most 20 choices.
-fn wide_variable(file: File, seed: usize, p: usize) -> Word {
+pub fn wide_variable(file: &File, seed: usize, p: usize) -> Word {
+    let own = fork(seed, p);
     let most = if once_in(seed, 15, 2) { 20 } else { 60 };
-    if once_in(fork(seed, p), 16, 2) && file.choices() < most {
+    if once_in(own, 16, 2) && file.choices() < most {
         return line(seed, p);
     }
-    let b = wide_scale(draw(seed, 17, 6), draw(fork(seed, p), 18, 4));
-    Word::chance(p, draw(fork(seed, p), 19, plus(b, 1)), b)
+    let b = wide_scale(draw(seed, 17, 6), draw(own, 18, 4));
+    Word::new(Kind::Chance, p, draw(own, 19, plus(b, 1)), b)
 }
 
 // The b of a chance, by the table's way and a draw of its own.

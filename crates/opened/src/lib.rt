@@ -7,61 +7,31 @@ mod table;
 ghost use Rattle.std.specs.Prelude.{◌≡◌, suc, ◌+◌, ◌≤◌, ◌^◌, length};
 ghost use Rattle.diagram.specs.Plans.{open_count};
 ghost use Rattle.diagram.specs.Services.{read_outcome, score_outcome, sweep_outcome, sweep_buffer, filter_outcome, filter_buffer, search_outcome, search_buffer};
+ghost use Rattle.reading.specs.Answer as reading;
 ghost use Rattle.scoring.specs.Answer.{outcome_of};
 ghost use Rattle.filtering.specs.Answer.{filter_of};
 ghost use Rattle.sweep.specs.Answer.{sweep_of};
 ghost use Rattle.search.specs.Answer.{search_of, visits_of};
-ghost use Rattle.opened.specs.Answer.{opening_of, opening_for, opened_of, table_with};
 
-use filtering::FilterAnswer;
-use reading::{ReadAnswer, read};
-use scoring::ScoreAnswer;
-use search::SearchAnswer;
-use sweep::SweepAnswer;
-pub use table::{Opening, State, Table};
+use reading::read;
+use search::Finding;
+pub use table::Table;
+use terms::Refusal;
 
 // Opens a table: the bytes as they were handed in, with V, N, the number of choices and B, or with the first reason for turning
-// them away and four zeros.
+// them away.
 pub fn open<'a>(bytes: &'a [u8]) -> Table<'a>
-    ensures answer { opened_of result ≡ read_outcome bytes.now }
-    ensures whole { result ≡ table_with bytes.entry (opening_for (read_outcome bytes.now)) }
+    ensures answer { reading.outcome_of result.found ≡ read_outcome bytes.now }
+    ensures bytes { result.bytes ≡ bytes.entry }
 {
-    let o = opening_of(bytes);
     Table {
         bytes,
-        variables: o.variables,
-        records: o.records,
-        choices: o.choices,
-        scale: o.scale,
-        state: o.state,
-    }
-}
-
-// What opening finds in a file.
-fn opening_of(file: &[u8]) -> Opening
-    ensures answer { opening_of result ≡ read_outcome file.now }
-    ensures whole { result ≡ opening_for (read_outcome file.now) }
-{
-    match read(file) {
-        ReadAnswer::Table(t) => Opening {
-            variables: t.variables,
-            records: t.records,
-            choices: t.choices,
-            scale: t.scale,
-            state: State::Accepted,
-        },
-        ReadAnswer::Refused(r) => Opening {
-            variables: 0,
-            records: 0,
-            choices: 0,
-            scale: 0,
-            state: State::Refused(r),
-        },
+        found: read(bytes),
     }
 }
 
 // The score of a full plan, or the first reason for turning the request away.
-pub fn score<'a, 'p>(t: Table<'a>, plan: &'p [u8]) -> ScoreAnswer
+pub fn score<'a, 'p>(t: Table<'a>, plan: &'p [u8]) -> Result<u64, Refusal>
     ensures { outcome_of result ≡ score_outcome t.entry.bytes.now plan.now }
 {
     scoring::score(t.bytes, plan)
@@ -69,7 +39,7 @@ pub fn score<'a, 'p>(t: Table<'a>, plan: &'p [u8]) -> ScoreAnswer
 
 // The top of a plan, with the drop of each choice written to the buffer, or the first reason for turning the request away,
 // which leaves the buffer as it was.
-pub fn sweep<'a, 'p, 'd>(t: Table<'a>, plan: &'p [u8], drops: &'d mut [u64]) -> SweepAnswer
+pub fn sweep<'a, 'p, 'd>(t: Table<'a>, plan: &'p [u8], drops: &'d mut [u64]) -> Result<u64, Refusal>
     ensures answer { sweep_of result drops.new ≡ sweep_outcome t.entry.bytes.now plan.now (length drops.old) }
     ensures buffer { drops.new ≡ sweep_buffer t.entry.bytes.now plan.now drops.old }
 {
@@ -83,7 +53,7 @@ pub fn filter<'a, 'p, 'o>(
     plan: &'p [u8],
     percent: u32,
     out: &'o mut [u8],
-) -> FilterAnswer
+) -> Result<usize, Refusal>
     ensures answer { filter_of result out.new ≡ filter_outcome t.entry.bytes.now plan.now percent (length out.old) }
     ensures buffer { out.new ≡ filter_buffer t.entry.bytes.now plan.now percent out.old }
 {
@@ -98,7 +68,7 @@ pub fn search<'a, 'p, 'o>(
     budget: u32,
     percent: u32,
     out: &'o mut [u8],
-) -> SearchAnswer
+) -> Result<Finding, Refusal>
     ensures answer { search_of result out.new ≡ search_outcome t.entry.bytes.now plan.now budget percent (length out.old) }
     ensures buffer { out.new ≡ search_buffer t.entry.bytes.now plan.now budget percent out.old }
     ensures visits { visits_of result + 1 ≤ 2 ^ suc (open_count plan.now) }

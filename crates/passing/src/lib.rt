@@ -12,7 +12,7 @@ pub fn least_passing(percent: u32, scale: u64) -> u64
     requires { (percent ≤ 100) × (scale ≤ 2 ^ 56) }
     ensures { (t : Table) → scale ≡ tables.scale t → LeastPassing t percent result }
 {
-    (percent as u64 * scale + 99) / 100
+    (percent as u64 * scale).div_ceil(100)
 }
 
 // Whether a score passes, by the least that does; and in a search, whether a bound reaches the least that is worth a visit.

@@ -1,4 +1,3 @@
--- Laws for the proofs of this crate's functions: what reading answers, what is known of an accepted file, and the checks as steps.
+-- Laws for the proofs of this crate's functions: what reading answers, and what is known of an accepted file.
 pub mod Outcomes
 pub mod Accepted
-pub mod Shaping

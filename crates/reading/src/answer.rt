@@ -1,6 +1,8 @@
 // What reading answers.
+ghost use Rattle.std.specs.Prelude.{◌≡◌};
+ghost use Rattle.reading.specs.Answer.{numbers, numbers_in};
+
 use decoding::Decoded;
-use terms::Refusal;
 
 // V, N, the number of choices and B of a table.
 #[derive(Clone, Copy)]
@@ -11,16 +13,16 @@ pub struct Summary {
     pub scale: u64,
 }
 
-// The table's numbers, or why the file is turned away.
-#[derive(Clone, Copy)]
-pub enum ReadAnswer {
-    Table(Summary),
-    Refused(Refusal),
-}
-
-// What reading answers, and the table decoded; it is the empty one where the file is turned away.
-#[derive(Clone, Copy)]
-pub struct TableAnswer {
-    pub answer: ReadAnswer,
-    pub table: Decoded,
+impl Summary {
+    // Those of a decoded table.
+    pub fn of(table: &Decoded) -> Summary
+        ensures { numbers result ≡ numbers_in table.now }
+    {
+        Summary {
+            variables: usize::from(table.variables),
+            records: table.records,
+            choices: table.choices,
+            scale: table.scale,
+        }
+    }
 }

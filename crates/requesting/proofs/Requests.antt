@@ -14,18 +14,16 @@ use Rattle.diagram.specs.Checks.{Check, place_zero, plan_length_fault, plan_mark
 use Rattle.diagram.specs.Services.{Outcome, refused, answered, checked, Reading, reading, read_outcome, score_outcome, sweep_outcome, filtering, filter_outcome, searching, search_outcome}
 use Rattle.diagram.specs.Score.{score}
 use Rattle.diagram.specs.Plans.{upper_bound, derivatives}
+use Rattle.std.specs.Prelude.{Result, Ok, Err}
 use Rattle.terms.specs.declared.refusal.Refusal.{Refusal}
-use Rattle.diagram.proofs.Checked.{checked-passes, checked_stops, checked-answered, checked_refused, read-refuses, Passed, read_passed, read-reading, first, later}
-use Rattle.steps.specs.declared.verdict.Verdict.{Verdict}
-use Rattle.steps.specs.declared.verdict.Verdict.TheVariants.{Passes, Refused}
-use Rattle.steps.specs.Steps.{finding_after, finding}
-use Rattle.steps.proofs.Stepping.{passes_among, passes-next, request_passes, request_stops}
+use Rattle.terms.specs.Numbers.{reason_number}
+use Rattle.diagram.proofs.Checked.{answered_not_refused, checked-passes, checked_stops, checked_end, checked-answered, checked_refused, read-refuses, read-answers, passed_among, Among, Passed, read_passed, read-reading, first, later}
+use Rattle.steps.specs.Steps.{outcome_by, finding}
+use Rattle.steps.proofs.Stepping.{refused_as, answered_as, part_passes, request_passes, request_stops}
+use Rattle.decoding.specs.declared.table.Decoded.{Decoded}
 use Rattle.decoding.proofs.Shape.{none_passes}
-use Rattle.reading.specs.declared.answer.Summary.{Summary}
-use Rattle.reading.specs.declared.answer.ReadAnswer.{ReadAnswer}
-use Rattle.reading.specs.declared.answer.TableAnswer.{TableAnswer}
-use Rattle.reading.specs.Answer.{outcome_of, Reads}
-use Rattle.reading.proofs.Outcomes.{numbers, refused_as, table_as, table-read}
+use Rattle.reading.specs.Answer.{numbers_in, Reads}
+use Rattle.reading.proofs.Outcomes.{table-read}
 use Rattle.requesting.specs.Request.{request_checks, request_outcome}
 use Rattle.requesting.proofs.FullPlans.{Legal, legal-marks, full_closed, open_taken-same}
 
@@ -56,10 +54,6 @@ none_false true h =
     let z : ◌≡◌ {A = ℕ} 0 1 = cc in
     absurd (omega arith)
 
-passes_none : (s : List ℕ) → finding [] s ≡ Passes
-unfolding finding_after
-passes_none s = refl
-
 -- ---------------------------------------------------------------------------
 -- The steps of a request, and a request that no check turns away
 
@@ -78,65 +72,57 @@ module _ (s p : List ℕ) (budget percent size : ℕ) where
   request_refused n i e = sym (read-refuses s _ _ n i e)
 
   -- by what is found of what comes with a file that reading answers
-  module _ (read : read_outcome s ≡ answered (reading s)) {v : Verdict} (e : v ≡ finding (request_checks p budget percent size) s) where
-    pub request_found : v ≡ Passes → answered (reading s) ≡ request_outcome s p budget percent size
+  module _ (read : read_outcome s ≡ answered (reading s)) {v : Result Unit Refusal} (promise : outcome_by (λ _. tt) v ≡ finding (request_checks p budget percent size) s) where
+    pub request_found : (x : Unit) → v ≡ Ok x → answered (reading s) ≡ request_outcome s p budget percent size
     unfolding request_outcome search_checks
-    request_found q = sym (request_passes s (request_checks p budget percent size) _ _ read e q)
+    request_found x e = sym (request_passes s (request_checks p budget percent size) _ _ read promise x e)
 
-    pub request_turned : (r : Refusal) → v ≡ Refused r → refused r.number r.place ≡ request_outcome s p budget percent size
+    pub request_turned : (r : Refusal) → v ≡ Err r → refused (reason_number r.reason) r.place ≡ request_outcome s p budget percent size
     unfolding request_outcome search_checks
-    request_turned r q = sym (request_stops s (request_checks p budget percent size) _ _ read e r q)
+    request_turned r e = sym (request_stops s (request_checks p budget percent size) _ _ read promise r e)
 
   pub request_accepted : read_outcome s ≡ answered (reading s) → length p ≡ choice_count (table_of s).variables → plan_mark_fault p [] ≡ none → percent ≤ 100 → budget ≤ 10020 → size ≡ choice_count (table_of s).variables → answered (reading s) ≡ request_outcome s p budget percent size
-  unfolding plan_mark_fault
+  unfolding request_outcome search_checks plan_mark_fault
   request_accepted read long marks percents budgets sized =
-      request_found read refl
-      (passes-next _ _ s (length-fits p s long)
-      (passes-next _ _ s marks
-      (passes-next _ _ s (percent-within s percent percents)
-      (passes-next _ _ s (budget-within s budget budgets) (passes-next _ [] s (buffer_fits s size sized) (passes_none s))))))
+      sym (read-answers s (request_checks p budget percent size) _ _ read
+      ∙ checked-passes _ _ _ s (length-fits p s long)
+      ∙ checked-passes _ _ _ s marks
+      ∙ checked-passes _ _ _ s (percent-within s percent percents)
+      ∙ checked-passes _ _ _ s (budget-within s budget budgets)
+      ∙ checked-passes _ _ _ s (buffer_fits s size sized)
+      ∙ checked_end _ s)
 
   module _ (r : Reading) (e : request_outcome s p budget percent size ≡ answered r) where
-    -- a request with an answer is not refused
-    turned : (n i : ℕ) → refused n i ≡ request_outcome s p budget percent size → ⊥
-    turned n i q =
-        let z : ◌≡◌ {A = ℕ} 0 1 = cc in
-        omega arith
-
     is_read : read_outcome s ≡ answered (reading s)
     is_read = go (read_outcome s) refl
       where
         go : (o : Outcome Reading) → read_outcome s ≡ o → read_outcome s ≡ answered (reading s)
-        go (refused n i) q = absurd (turned n i (request_refused n i q))
+        go (refused n i) q = absurd (answered_not_refused r n i (sym e ∙ sym (request_refused n i q)))
         go (answered a) q = q ∙ ap answered (read-reading s a q)
 
-    none_found : finding (request_checks p budget percent size) s ≡ Passes
-    none_found = go (finding (request_checks p budget percent size) s) refl
-      where
-        go : (v : Verdict) → finding (request_checks p budget percent size) s ≡ v → finding (request_checks p budget percent size) s ≡ Passes
-        go Passes q = q
-        go (Refused x) q = absurd (turned x.number x.place (request_turned is_read refl x q))
+    passed : (number : ℕ) (fault : List ℕ → Option ℕ) → Among (record { number = number; fault = fault }) (search_checks p budget percent size) → fault s ≡ none
+    unfolding request_outcome
+    passed = passed_among s r e
 
     is-long : length p ≡ choice_count (table_of s).variables
-    unfolding plan_length_fault
-    is-long = eqb-true _ _ (none_passes _ (passes_among Passes s refl none_found 21 (plan_length_fault p) first))
+    unfolding plan_length_fault search_checks table_checks
+    is-long = eqb-true _ _ (none_passes _ (passed 21 (plan_length_fault p) (search (first, later) depth 20)))
 
     has_marks : plan_mark_fault p s ≡ none
-    has_marks = passes_among Passes s refl none_found 22 (plan_mark_fault p) (search (first, later) depth 20)
+    unfolding search_checks table_checks
+    has_marks = passed 22 (plan_mark_fault p) (search (first, later) depth 20)
 
     percent-small : percent ≤ 100
-    unfolding percent_fault
-    percent-small =
-        ltb-false 100 percent (none_false _ (passes_among Passes s refl none_found 23 (percent_fault percent) (search (first, later) depth 20)))
+    unfolding percent_fault search_checks table_checks
+    percent-small = ltb-false 100 percent (none_false _ (passed 23 (percent_fault percent) (search (first, later) depth 20)))
 
     budget-small : budget ≤ 10020
-    unfolding budget_fault
-    budget-small =
-        ltb-false 10020 budget (none_false _ (passes_among Passes s refl none_found 24 (budget_fault budget) (search (first, later) depth 20)))
+    unfolding budget_fault search_checks table_checks
+    budget-small = ltb-false 10020 budget (none_false _ (passed 24 (budget_fault budget) (search (first, later) depth 20)))
 
     is-sized : size ≡ choice_count (table_of s).variables
-    unfolding buffer_fault
-    is-sized = eqb-true _ _ (none_passes _ (passes_among Passes s refl none_found 25 (buffer_fault size) (search (first, later) depth 20)))
+    unfolding buffer_fault search_checks table_checks
+    is-sized = eqb-true _ _ (none_passes _ (passed 25 (buffer_fault size) (search (first, later) depth 20)))
 
     pub proper : Proper s p budget percent size
     proper =
@@ -157,36 +143,31 @@ module _ (s p : List ℕ) (budget percent size : ℕ) where
         cc
 
 -- ---------------------------------------------------------------------------
--- What the answers of `read` and `accept` tell
-
-pub table-answered : (s : List ℕ) {r : ReadAnswer} → outcome_of r ≡ read_outcome s → (t : Summary) → r ≡ ReadAnswer.Table t → answered (numbers t) ≡ answered (reading s)
-table-answered s promise t e = sym (table_as promise t e) ∙ table-read s promise t e
+-- What the answers of `read_table` and `accept` tell
 
 -- what `read_table` hands out is handed out for a request that passes
-module _ (s p : List ℕ) (budget percent size : ℕ) {r : TableAnswer} (read : Reads s (read_outcome s) r) where
-  pub reads-found : (t : Summary) → r.answer ≡ ReadAnswer.Table t → {v : Verdict} → v ≡ finding (request_checks p budget percent size) s → v ≡ Passes → Reads s (request_outcome s p budget percent size) r
-  reads-found t e found q =
-      let answered-read = table-read s read.outcome t e in
-      record {
-        outcome = read.outcome ∙ answered-read ∙ request_found s p budget percent size answered-read found q;
-        accepted = read.accepted;
-        refused = read.refused;
-      }
+pub reads-found : (s p : List ℕ) (budget percent size : ℕ) (d : Decoded) → Reads s (read_outcome s) (Ok d) → {v : Result Unit Refusal} → outcome_by (λ _. tt) v ≡ finding (request_checks p budget percent size) s → (x : Unit) → v ≡ Ok x → Reads s (request_outcome s p budget percent size) (Ok d)
+reads-found s p budget percent size d read promise x e =
+    let answered-read = table-read numbers_in s read.outcome d refl in
+    record {
+      outcome = read.outcome ∙ answered-read ∙ request_found s p budget percent size answered-read promise x e;
+      accepted = read.accepted;
+    }
 
-module _ (s p : List ℕ) (budget percent size : ℕ) {r : ReadAnswer} (promise : outcome_of r ≡ request_outcome s p budget percent size) where
-  pub refused_request : (x : Refusal) → r ≡ ReadAnswer.Refused x → request_outcome s p budget percent size ≡ refused x.number x.place
-  refused_request = refused_as promise
+module _ (s p : List ℕ) (budget percent size : ℕ) {r : Result Decoded Refusal} (promise : outcome_by numbers_in r ≡ request_outcome s p budget percent size) where
+  pub refused_request : (x : Refusal) → r ≡ Err x → request_outcome s p budget percent size ≡ refused (reason_number x.reason) x.place
+  refused_request = refused_as numbers_in promise
 
-  module _ (t : Summary) (e : r ≡ ReadAnswer.Table t) where
-    pub accepted_request : request_outcome s p budget percent size ≡ answered (numbers t)
-    accepted_request = table_as promise t e
+  module _ (d : Decoded) (e : r ≡ Ok d) where
+    pub accepted_request : request_outcome s p budget percent size ≡ answered (numbers_in d)
+    accepted_request = answered_as numbers_in promise d e
 
     pub accepted_proper : Proper s p budget percent size
-    accepted_proper = proper s p budget percent size (numbers t) accepted_request
+    accepted_proper = proper s p budget percent size (numbers_in d) accepted_request
 
-    pub accepted-scale : t.scale ≡ scale (table_of s)
+    pub accepted-scale : d.scale ≡ scale (table_of s)
     unfolding reading
-    accepted-scale = ap (λ (x : Reading). x.scale) (request_reading s p budget percent size (numbers t) accepted_request)
+    accepted-scale = ap (λ (x : Reading). x.scale) (request_reading s p budget percent size (numbers_in d) accepted_request)
 
 -- ---------------------------------------------------------------------------
 -- From a request's outcome to a service's
@@ -254,21 +235,22 @@ module _ (s p : List ℕ) where
   score-refused n i e = sym (read-refuses s _ _ n i e)
 
   -- by what is found of the plan
-  module _ {v : Verdict} (e : v ≡ finding (full_plan_checks p) s) where
-    pub score_turned : read_outcome s ≡ answered (reading s) → (r : Refusal) → v ≡ Refused r → refused r.number r.place ≡ score_outcome s p
+  module _ {v : Result Unit Refusal} (promise : outcome_by (λ _. tt) v ≡ finding (full_plan_checks p) s) where
+    pub score_turned : read_outcome s ≡ answered (reading s) → (r : Refusal) → v ≡ Err r → refused (reason_number r.reason) r.place ≡ score_outcome s p
     unfolding score_outcome score_checks
-    score_turned read r q = sym (request_stops s (full_plan_checks p) _ _ read e r q)
+    score_turned read r e = sym (request_stops s (full_plan_checks p) _ _ read promise r e)
 
-    pub plan-long : v ≡ Passes → length p ≡ choice_count (table_of s).variables
-    unfolding plan_length_fault
-    plan-long q = eqb-true _ _ (none_passes _ (passes_among Passes s e q 21 (plan_length_fault p) first))
+    module _ (t : Unit) (e : v ≡ Ok t) where
+      pub plan-long : length p ≡ choice_count (table_of s).variables
+      unfolding plan_length_fault
+      plan-long = eqb-true _ _ (none_passes _ (part_passes (λ _. tt) (full_plan_checks p) tt s promise t e 21 (plan_length_fault p) first))
 
-    pub plan_full : v ≡ Passes → full_plan_fault p s ≡ none
-    plan_full q = passes_among Passes s e q 22 (full_plan_fault p) (search (first, later) depth 20)
+      pub plan_full : full_plan_fault p s ≡ none
+      plan_full = part_passes (λ _. tt) (full_plan_checks p) tt s promise t e 22 (full_plan_fault p) (search (first, later) depth 20)
 
-    pub score-answered : read_outcome s ≡ answered (reading s) → v ≡ Passes → (x : ℕ) → x ≡ upper_bound (table_of s) p → answered x ≡ score_outcome s p
-    unfolding score_outcome score_checks upper_bound
-    score-answered read q x h =
-        let same = open_taken-same p (full_closed p s (plan_full q)) in
-        let is : x ≡ score (table_of s) p = h ∙ rw same in
-        ap answered is ∙ sym (request_passes s (full_plan_checks p) _ _ read e q)
+      pub score-answered : read_outcome s ≡ answered (reading s) → (x : ℕ) → x ≡ upper_bound (table_of s) p → answered x ≡ score_outcome s p
+      unfolding score_outcome score_checks upper_bound
+      score-answered read x h =
+          let same = open_taken-same p (full_closed p s plan_full) in
+          let is : x ≡ score (table_of s) p = h ∙ rw same in
+          ap answered is ∙ sym (request_passes s (full_plan_checks p) _ _ read promise t e)

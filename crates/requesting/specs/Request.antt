@@ -1,11 +1,8 @@
 -- The checks that the sweep, the filter and the search share, and what those of a request find.
-use Rattle.std.specs.Prelude.{ℕ, not, List, [], ◌++◌, length, eqb, ltb}
+use Rattle.std.specs.Prelude.{ℕ, not, List, [], ◌∷◌, ◌++◌, length, eqb, ltb, Option}
 use Rattle.diagram.specs.Checks.{Check, place_zero, plan_mark_fault, full_plan_fault, plan_checks, percent_checks, budget_checks, buffer_checks, search_checks}
 use Rattle.diagram.specs.Services.{Outcome, answered, checked, Reading, reading}
-use Rattle.steps.specs.declared.verdict.Fault.{Fault}
-use Rattle.steps.specs.declared.verdict.Verdict.{Verdict}
-use Rattle.steps.specs.declared.verdict.Verdict.TheVariants.{Passes}
-use Rattle.steps.specs.Steps.{fault_of, and_then}
+use Rattle.steps.specs.Steps.{fault_of, finding}
 
 -- Those of what comes with a file
 abbrev pub request_checks : (plan : List ℕ) → (budget percent size : ℕ) → List Check
@@ -17,22 +14,23 @@ unfoldable pub request_outcome : (file plan : List ℕ) → (budget percent size
 request_outcome s p budget percent size = checked (search_checks p budget percent size) (λ file. answered (reading file)) s
 
 -- A fault where two numbers differ
-abbrev pub unequal_fault : ℕ → ℕ → Fault
+abbrev pub unequal_fault : ℕ → ℕ → Option ℕ
 unequal_fault x y = fault_of (place_zero (not (eqb x y)))
 
 -- A fault where a number is above its limit
-abbrev pub above_fault : (limit : ℕ) → ℕ → Fault
+abbrev pub above_fault : (limit : ℕ) → ℕ → Option ℕ
 above_fault limit x = fault_of (place_zero (ltb limit x))
 
--- What 21 and 22 find of a plan for a number of choices
-unfoldable pub plan_finding : (plan : List ℕ) → (choices : ℕ) → Verdict
-plan_finding p n = and_then (and_then Passes 21 (unequal_fault (length p) n)) 22 (fault_of (plan_mark_fault p []))
+-- A check that two numbers are equal, whatever the file
+abbrev pub equal_check : (number : ℕ) → ℕ → ℕ → Check
+equal_check number x y = record { number = number; fault = λ _. place_zero (not (eqb x y)) }
 
--- The same of the score, whose plan has to be full
-unfoldable pub full_plan_finding : (plan : List ℕ) → (choices : ℕ) → Verdict
-full_plan_finding p n = and_then (and_then Passes 21 (unequal_fault (length p) n)) 22 (fault_of (full_plan_fault p []))
+-- What 21 and 22 of the score, whose plan has to be full, find of a plan for a number of choices
+unfoldable pub full_plan_finding : (plan : List ℕ) → (choices : ℕ) → Outcome Unit
+full_plan_finding p n =
+    finding (equal_check 21 (length p) n ∷ record { number = 22; fault = full_plan_fault p } ∷ []) []
 
 -- What 21 to 25 find of what comes with a file that has a number of choices
-unfoldable pub request_finding : (plan : List ℕ) → (budget percent size choices : ℕ) → Verdict
+unfoldable pub request_finding : (plan : List ℕ) → (budget percent size choices : ℕ) → Outcome Unit
 request_finding p budget percent size n =
-    and_then (and_then (and_then (plan_finding p n) 23 (above_fault 100 percent)) 24 (above_fault 10020 budget)) 25 (unequal_fault size n)
+    finding (equal_check 21 (length p) n ∷ record { number = 22; fault = plan_mark_fault p } ∷ percent_checks percent ++ budget_checks budget ++ equal_check 25 size n ∷ []) []

@@ -1,10 +1,9 @@
 -- The answer of `score` in the terms of the meaning.
-use Rattle.std.specs.Prelude.{ℕ}
-use Rattle.diagram.specs.Services.{Outcome, refused, answered}
-use Rattle.scoring.specs.declared.answer.ScoreAnswer.{ScoreAnswer}
-use Rattle.scoring.specs.declared.answer.ScoreAnswer.TheVariants.{Score, Refused}
+use Rattle.std.specs.Prelude.{ℕ, Result}
+use Rattle.diagram.specs.Services.{Outcome}
+use Rattle.terms.specs.declared.refusal.Refusal.{Refusal}
+use Rattle.steps.specs.Steps.{outcome_by}
 
 -- The score, or a refusal's number and place
-unfoldable pub outcome_of : ScoreAnswer → Outcome ℕ
-outcome_of (Score x) = answered x
-outcome_of (Refused r) = refused r.number r.place
+abbrev pub outcome_of : Result ℕ Refusal → Outcome ℕ
+outcome_of r = outcome_by (λ x. x) r

@@ -16,6 +16,6 @@ pub fn upper_bound(table: Decoded, plan: &[u8]) -> u64
     let mut arcs = [0u64; 544];
     let mut weights = [0u64; 544];
     let mut values = [0u64; 256];
-    let valued = value_plan(table, plan, &mut arcs, &mut weights, &mut values);
+    let valued = value_plan(&table, plan, &mut arcs, &mut weights, &mut values);
     valued.bound
 }

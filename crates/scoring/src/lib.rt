@@ -2,31 +2,22 @@
 // pass up the records.
 #![tactic(auto)]
 
-mod answer;
 mod bound;
 
 ghost use Rattle.std.specs.Prelude.{◌≡◌};
 ghost use Rattle.diagram.specs.Services.{score_outcome};
 ghost use Rattle.scoring.specs.Answer.{outcome_of};
 
-pub use answer::ScoreAnswer;
 use bound::upper_bound;
-use reading::{ReadAnswer, read_table};
+use reading::read_table;
 use requesting::check_full_plan;
-use steps::Verdict;
+use terms::Refusal;
 
 // The score of a full plan, or the first reason for turning the request away.
-pub fn score(file: &[u8], plan: &[u8]) -> ScoreAnswer
+pub fn score(file: &[u8], plan: &[u8]) -> Result<u64, Refusal>
     ensures { outcome_of result ≡ score_outcome file.now plan.now }
 {
-    let found = read_table(file);
-    let answer = found.answer;
-    let numbers = match answer {
-        ReadAnswer::Table(numbers) => numbers,
-        ReadAnswer::Refused(r) => return ScoreAnswer::Refused(r),
-    };
-    match check_full_plan(plan, numbers.choices) {
-        Verdict::Passes => ScoreAnswer::Score(upper_bound(found.table, plan)),
-        Verdict::Refused(r) => ScoreAnswer::Refused(r),
-    }
+    let table = read_table(file)?;
+    check_full_plan(plan, table.choices)?;
+    Ok(upper_bound(table, plan))
 }

@@ -5,7 +5,7 @@ use native.Mathlib.Omega.{arith}
 use mathlib.Core.Path.{◌≡◌, refl, sym, ◌∙◌}
 use mathlib.Core.List.{List}
 use mathlib.Core.Option.{Option, none, some}
-use lib.ListN.{length, get_or, take, replicate, length-append, length-replicate}
+use lib.ListN.{length, take, replicate}
 use lib.Pow.{pow_pos}
 use lib.Seq.{take-append_seam}
 use Rattle.diagram.specs.Table.{table_of}
@@ -13,34 +13,38 @@ use Rattle.diagram.specs.Plans.{open_count}
 use Rattle.diagram.specs.Ranking.{best_plan}
 use Rattle.diagram.specs.Visits as visits
 use Rattle.diagram.specs.Services.{refused, answered, written, Reading, searching, search_outcome, search_buffer}
+use Rattle.std.specs.Prelude.{Result, Ok, Err}
 use Rattle.terms.specs.declared.refusal.Refusal.{Refusal}
-use Rattle.reading.proofs.Accepted.{passed_choices, passed_formed, passed_monotone}
+use Rattle.terms.specs.declared.refusal.Reason.{Reason}
+use Rattle.terms.specs.Numbers.{reason_number}
+use Rattle.steps.specs.Steps.{outcome_by}
+use Rattle.reading.proofs.Accepted.{passed_formed, passed_monotone}
 use Rattle.rule.proofs.Visiting.{visited-first, visits-bounded}
 use Rattle.requesting.specs.Request.{request_outcome}
 use Rattle.requesting.proofs.Requests.{Proper, proper, search_refused, search_answered}
-use Rattle.search.specs.declared.answer.SearchAnswer.{SearchAnswer}
-use Rattle.search.specs.declared.answer.SearchAnswer.TheVariants.{Found, Refused}
+use Rattle.incumbent.specs.declared.Incumbent.{Incumbent}
+use Rattle.search.specs.declared.answer.Finding.{Finding}
 use Rattle.search.specs.Answer.{search_of, visits_of}
 use Rattle.search.specs.Searched.{Searched}
 
 module _ (s p held : List ℕ) (budget percent : ℕ) where
   -- What `search` promises of its answer and of its buffer
-  abbrev Promised : SearchAnswer → (out : List ℕ) → Type 0
+  abbrev Promised : Result Finding Refusal → (out : List ℕ) → Type 0
   Promised r out =
       (search_of r out ≡ search_outcome s p budget percent (length held))
       × ((out ≡ search_buffer s p budget percent held)
       × (visits_of r + 1 ≤ 2 ^ suc (open_count p)))
 
   -- a refusal leaves the buffer and answers no visits
-  refuses : (x : Refusal) → search_outcome s p budget percent (length held) ≡ refused x.number x.place → Promised (Refused x) held
-  unfolding search_of visits_of search_buffer written
+  refuses : (x : Refusal) → search_outcome s p budget percent (length held) ≡ refused (reason_number x.reason) x.place → Promised (Err x) held
+  unfolding outcome_by visits_of search_buffer written
   refuses x e = (sym e, (rw e refl, omega (arith, pow_pos (suc (open_count p)))))
 
   -- a request that a check turns away
-  pub search_turned : (x : Refusal) → request_outcome s p budget percent (length held) ≡ refused x.number x.place → Promised (Refused x) held
-  search_turned x e = refuses x (search_refused s p (length held) percent budget x.number x.place e)
+  pub search_turned : (x : Refusal) → request_outcome s p budget percent (length held) ≡ refused (reason_number x.reason) x.place → Promised (Err x) held
+  search_turned x e = refuses x (search_refused s p (length held) percent budget (reason_number x.reason) x.place e)
 
-  module _ (r : Reading) (e : request_outcome s p budget percent (length held) ≡ answered r) {least : ℕ} {best tally : List ℕ} (searched : Searched (table_of s) percent budget least p best tally) where
+  module _ (r : Reading) (e : request_outcome s p budget percent (length held) ≡ answered r) {least : ℕ} {h : Incumbent} (searched : Searched (table_of s) percent budget least p h) where
     -- what the checks have found
     is_proper : Proper s p budget percent (length held)
     is_proper = proper s p budget percent (length held) r e
@@ -51,42 +55,31 @@ module _ (s p held : List ℕ) (budget percent : ℕ) where
         sym (visited-first (table_of s) (passed_formed is_proper.passed) (passed_monotone is_proper.passed) budget percent p)
 
     -- the visits are those counted
-    visits-counted : visits.visit_count (table_of s) budget percent p ≡ get_or tally 2 0
+    visits-counted : visits.visit_count (table_of s) budget percent p ≡ h.visits
     unfolding visits.visit_count
     visits-counted = sym searched.counts
 
     -- 32 where nothing is held
-    pub search_32 : get_or tally 1 0 ≡ 0 → {n i : ℕ} → n ≡ 32 → i ≡ 0 → Promised (Refused (record { number = n; place = i })) held
+    pub search_32 : h.room ≡ 0 → (n : Reason) {i : ℕ} → reason_number n ≡ 32 → i ≡ 0 → Promised (Err (record { reason = n; place = i })) held
     unfolding searching
-    search_32 f {n} {i} en ei = go (visits.visited (table_of s) budget percent p).held refl
+    search_32 f n {i} en ei = go (visits.visited (table_of s) budget percent p).held refl
       where
-        go : (o : Option (List ℕ)) → (visits.visited (table_of s) budget percent p).held ≡ o → Promised (Refused (record { number = n; place = i })) held
+        go : (o : Option (List ℕ)) → (visits.visited (table_of s) budget percent p).held ≡ o → Promised (Err (record { reason = n; place = i })) held
         go none q =
-            rw (en, ei)
-            (refuses
-            (record { number = 32; place = 0 })
-            (search_answered s p (length held) percent budget r e ∙ rw (best-held, q, searching) refl))
+            refuses
+            (record { reason = n; place = i })
+            (search_answered s p (length held) percent budget r e ∙ rw (best-held, q, en, ei, searching) refl)
         go (some b) q =
             let holding = searched.holds.something b q in
             absurd (omega (arith, f, holding.room, holding.within))
 
-    -- the plan held has 20 marks, where one is held
-    pub held-long : (get_or tally 1 0 ≡ 0 → ⊥) → length best ≡ 20
-    held-long h = go (visits.visited (table_of s) budget percent p).held refl
-      where
-        go : (o : Option (List ℕ)) → (visits.visited (table_of s) budget percent p).held ≡ o → length best ≡ 20
-        go none q = absurd (h (searched.holds.nothing q).1)
-        go (some b) q =
-            let holding = searched.holds.something b q in
-            rw (holding.plan, length-append, length-replicate) (omega (arith, holding.size, passed_choices is_proper.passed))
-
     -- else the plan held, with its score and the visits
-    pub search_found : (get_or tally 1 0 ≡ 0 → ⊥) → {out : List ℕ} → out ≡ take (length held) best → {x v : ℕ} → x ≡ get_or tally 0 0 → v ≡ get_or tally 2 0 → Promised (Found (record { score = x; visits = v })) out
-    unfolding searching search_of visits_of search_buffer written
-    search_found h {out} w {x} {v} ex ev = go (visits.visited (table_of s) budget percent p).held refl
+    pub search_found : (h.room ≡ 0 → ⊥) → {out : List ℕ} → out ≡ take (length held) h.marks → {x v : ℕ} → x ≡ h.cutoff → v ≡ h.visits → Promised (Ok (record { score = x; visits = v })) out
+    unfolding searching outcome_by visits_of search_buffer written
+    search_found more {out} w {x} {v} ex ev = go (visits.visited (table_of s) budget percent p).held refl
       where
-        go : (o : Option (List ℕ)) → (visits.visited (table_of s) budget percent p).held ≡ o → Promised (Found (record { score = x; visits = v })) out
-        go none q = absurd (h (searched.holds.nothing q).1)
+        go : (o : Option (List ℕ)) → (visits.visited (table_of s) budget percent p).held ≡ o → Promised (Ok (record { score = x; visits = v })) out
+        go none q = absurd (more (searched.holds.nothing q).1)
         go (some b) q =
             let holding = searched.holds.something b q in
             let size : length held ≡ length b = is_proper.sized ∙ sym holding.size in

@@ -12,7 +12,7 @@ use Rattle.diagram.specs.Validity.{Formed, Monotone}
 use Rattle.weighing.specs.Value.{node_position, marks_from, value_from, value, gap, variable_at, high_arc, low_arc}
 use Rattle.valuing.specs.Passes.{mark_of}
 use Rattle.derivatives.specs.Down.{root_weight}
-use Rattle.layers.specs.Layers.{Layers}
+use Rattle.layers.specs.declared.arcs.LaidArcs.{LaidArcs}
 use Rattle.layout.specs.Flows.{high_at, low_at, Layered, Line, at_sum}
 use Rattle.search.specs.Searched.{priced}
 
@@ -39,7 +39,7 @@ module _ (k : List ℕ) (t : Table) where
   priced-root-weight m zero = refl
   priced-root-weight m (suc i) = rw (priced-root-weight m i) refl
 
-  pub priced-layered : {s order losses : List ℕ} {l : Layers} → Layered t s order l losses → Layered (priced k t) s order l losses
+  pub priced-layered : {s order losses : List ℕ} {l : LaidArcs} → Layered t s order l losses → Layered (priced k t) s order l losses
   unfolding priced is_monotone_at scale high_at low_at high_arc low_arc variable_at mark_of marks_from node_position gap value value_from
   priced-layered h =
       record {

@@ -8,11 +8,11 @@ use native.Mathlib.Decide.{ℕ_discrete, dec_lt}
 use mathlib.Core.Path.{◌≡◌, refl, ap, sym, ◌∙◌}
 use mathlib.Core.Bool.{Bool, true, false, cond, false≢true}
 use mathlib.Core.Logic.{by_cases}
-use mathlib.Core.Option.{Option, none, some}
+use mathlib.Core.Option.{none, some-ne-none}
 use mathlib.Core.List.{List, [], ◌∷◌, ◌++◌}
-use lib.ListN.{length, get_or, set, take, drop, replicate, length-set, length-append, length-replicate, drop_of_length-le}
+use lib.ListN.{length, get_or, take, drop, replicate, length-append, length-replicate, drop_of_length-le}
 use lib.Pow.{pow_mono}
-use lib.Seq.{get_or-set_same, get_or-set_other, take-length, take-append_seam, get_or-drop, get_or-take, drop-cons}
+use lib.Seq.{take-length, take-append_seam, get_or-drop, get_or-take, drop-cons}
 use Rattle.diagram.specs.Table.{Variable, choice, chance, Table, is_choice, choice_count}
 use Rattle.diagram.specs.Plans.{open_count, cost_of, cost, LeastPassing}
 use Rattle.diagram.specs.Visits as visits
@@ -27,14 +27,18 @@ use Rattle.weighing.specs.Value.{marks_from}
 use Rattle.valuing.specs.Passes.{mark_of}
 use Rattle.valuing.proofs.Forcing.{choices-before}
 use Rattle.derivatives.proofs.Leaving.{choices-later}
-use Rattle.layers.specs.Layers.{Layers}
-use Rattle.layout.specs.Flows.{Stand, Line}
+use Rattle.incumbent.specs.declared.Incumbent.{Incumbent}
+use Rattle.incumbent.specs.Held.{none_held}
+use Rattle.layers.specs.declared.arcs.LaidArcs.{LaidArcs}
+use Rattle.layout.specs.Flows as layers
+use Rattle.layout.specs.Flows.{Stand}
 use Rattle.layout.specs.Layout.{Ending, Arranged}
 use Rattle.lines.specs.Open.{rows, open_from, open_lines}
-use Rattle.lines.specs.Columns.{first_rank, own_rank, next_rank, line_number, line_kits, numbers_from, listing_of, lines_written}
+use Rattle.lines.specs.Laid.{Listing, listing_of, layer_start, line_at, lines_from, numbers_of}
+use Rattle.lines.specs.declared.lay.Line.{Line}
 use Rattle.lines.proofs.Listed.{lines-length, lines-few}
-use Rattle.lines.proofs.RankedLines.{Ranked, lines_ranked}
-use Rattle.visiting.specs.State.{padded, Holds, Scene, Visitable, ruled, Visited}
+use Rattle.lines.proofs.LaidLines.{laid-length}
+use Rattle.visiting.specs.Visit.{padded, Holds, LineLaid, BeginsAt, AllLaid, RightBefore, Scene, Visitable, ruled, Visited}
 use Rattle.search.specs.Searched.{priced, Searched}
 use Rattle.search.proofs.Priced.{priced-formed, priced-monotone, priced-bound, priced-passing, priced-layered, priced-line}
 
@@ -176,7 +180,7 @@ module _ (t : Table) (s : List ℕ) (long : length s ≡ choice_count t.variable
 
   module _ {order ends : List ℕ} (ending : Ending t order ends) where
     -- the layer of the first open line
-    first-line : {d x : ℕ} → Opened t s 0 d x → Line t s order 0 (get_or ends x 0) (get_or ends (x + 1) 0) d
+    first-line : {d x : ℕ} → Opened t s 0 d x → layers.Line t s order 0 (get_or ends x 0) (get_or ends (x + 1) 0) d
     first-line {d} {x} a =
         let within = a.stand.within in
         record {
@@ -192,7 +196,7 @@ module _ (t : Table) (s : List ℕ) (long : length s ≡ choice_count t.variable
         }
 
     -- the layer of an open line after another
-    next-line : {k c d w x : ℕ} → Opened t s k c w → Opened t s (suc k) d x → Line t s order (get_or ends (w + 1) 0) (get_or ends x 0) (get_or ends (x + 1) 0) d
+    next-line : {k c d w x : ℕ} → Opened t s k c w → Opened t s (suc k) d x → layers.Line t s order (get_or ends (w + 1) 0) (get_or ends x 0) (get_or ends (x + 1) 0) d
     next-line {k} {c} {d} {w} {x} b a =
         let within = a.stand.within in
         let later = opened_later b a (omega arith) in
@@ -210,7 +214,7 @@ module _ (t : Table) (s : List ℕ) (long : length s ≡ choice_count t.variable
         }
 
   -- ---------------------------------------------------------------------------
-  -- The layers as `write_lines` writes them
+  -- The lines as `lay_lines` lays them out
 
   module _ (count : ℕ) (numbers positions : List ℕ) (listed : numbers ≡ pad_to 20 (open_lines s)) (counted : count ≡ length (open_lines s)) (chosen : (i : ℕ) → i < choice_count t.variables → get_or positions i 0 ≡ choice_position t.variables i) where
     -- all open lines are listed
@@ -229,61 +233,65 @@ module _ (t : Table) (s : List ℕ) (long : length s ≡ choice_count t.variable
         let few = (opened_at i h).within in
         rw (number_at i h) (chosen (get_or (open_lines s) i 0) (omega (arith, few, long)))
 
-    -- what `write_lines` asks for
+    -- what `lay_lines` asks for
     pub numbers-few : choice_count t.variables ≤ 20 → length t.variables < 64 → (i : ℕ) → i < count → (get_or numbers i 0 < 20) × (get_or positions (get_or numbers i 0) 0 < 64)
     numbers-few few short i h =
         let at = opened_at i h in
         (rw (number_at i h) (omega (arith, at.within, long)), rw (position_at_lem i h) (omega (arith, at.stand.within)))
 
-    module _ {order ends kits lines : List ℕ} (ending : Ending t order ends) (ranked : Ranked (listing_of numbers positions ends kits) count count lines) where
-      own_at : (i n : ℕ) → 1 ≤ n → i + n ≡ count → own_rank lines n ≡ get_or ends (choice_position t.variables (get_or (open_lines s) i 0)) 0
-      own_at i n more e =
-          let at : count - i ≡ n = omega arith in
-          rw (at, position_at_lem i (omega arith)) at (ranked.own i (omega arith))
+    module _ {order ends : List ℕ} (kits : List ℕ) (ending : Ending t order ends) where
+      -- The table with these kits, and what the lines are laid out from
+      abbrev own_kits : Table
+      own_kits = priced (take (length s) kits) t
 
-      next-at : (i n : ℕ) → 1 ≤ n → i + n ≡ count → next_rank lines n ≡ get_or ends (choice_position t.variables (get_or (open_lines s) i 0) + 1) 0
-      next-at i n more e =
-          let at : count - i ≡ n = omega arith in
-          rw (at, position_at_lem i (omega arith)) at (ranked.next i (omega arith))
+      abbrev listing : Listing
+      listing = listing_of numbers positions ends kits
 
-      line_at : (i n : ℕ) → 1 ≤ n → i + n ≡ count → line_number lines n ≡ get_or (open_lines s) i 0
-      line_at i n more e =
-          let at : count - i ≡ n = omega arith in
-          rw (at, number_at i (omega arith)) at (ranked.number i (omega arith))
-
-      -- the kits of each open line
-      pub kits_ranked : (n : ℕ) → 1 ≤ n → n ≤ open_count s → line_kits lines n ≡ get_or (take (length s) kits) (line_number lines n) 0
-      kits_ranked n more h =
-          let i = count - n in
-          let e : i + n ≡ count = omega (arith, open_counted) in
-          let at : count - i ≡ n = omega arith in
-          rw (line_at i n more e, get_or-take (length s) kits (get_or (open_lines s) i 0) 0 (opened_at i (omega arith)).within)
-          (rw (at, number_at i (omega arith)) at (ranked.priced i (omega arith)))
-
-      -- the layer of each open line
-      pub layers_ranked : (n : ℕ) → 1 ≤ n → n ≤ open_count s → Line t s order (first_rank lines n) (own_rank lines n) (next_rank lines n) (line_number lines n)
-      layers_ranked n more h = go (count - n) (omega (arith, open_counted))
+      -- each open line has the layer and the kits of its choice
+      line-laid : (i : ℕ) → i < count → LineLaid own_kits s order (line_at listing i)
+      unfolding priced layer_start
+      line-laid i h =
+          record {
+            layer = priced-line _ t (rw (position_at_lem i h, number_at i h) (go i h));
+            priced = rw (number_at i h) (sym (get_or-take (length s) kits (get_or (open_lines s) i 0) 0 (opened_at i h).within));
+          }
         where
-          go : (i : ℕ) → i + n ≡ count → Line t s order (first_rank lines n) (own_rank lines n) (next_rank lines n) (line_number lines n)
-          go zero e =
-              let all : count ≡ n = omega arith in
-              let from : first_rank lines n ≡ 0 = rw all at ranked.first in
-              rw (from, own_at 0 n more e, next-at 0 n more e, line_at 0 n more e) (first-line ending (opened_at 0 (omega arith)))
-          go (suc i) e =
-              let before : n + 1 - 1 ≡ n = omega arith in
-              let from = rw before at (next-at i (n + 1) (omega arith) (omega arith)) in
-              rw (from, own_at (suc i) n more e, next-at (suc i) n more e, line_at (suc i) n more e) (next-line ending (opened_at i (omega arith)) (opened_at (suc i) (omega arith)))
+          go : (i : ℕ) → i < count → layers.Line t s order (layer_start listing i) (get_or ends (choice_position t.variables (get_or (open_lines s) i 0)) 0) (get_or ends (choice_position t.variables (get_or (open_lines s) i 0) + 1) 0) (get_or (open_lines s) i 0)
+          go zero h = first-line ending (opened_at 0 h)
+          go (suc i) h = rw (position_at_lem i (omega arith)) (next-line ending (opened_at i (omega arith)) (opened_at (suc i) h))
+
+      line-begins : (i n : ℕ) → BeginsAt (get_or ends (get_or positions (get_or numbers i 0) 0 + 1) 0) (lines_from listing (suc i) n)
+      unfolding BeginsAt lines_from layer_start
+      line-begins i zero = tt {0}
+      line-begins i (suc n) = refl
+
+      all-laid : (i n : ℕ) → i + n ≡ count → AllLaid own_kits s order (lines_from listing i n)
+      unfolding AllLaid lines_from
+      all-laid i zero e = tt {0}
+      all-laid i (suc n) e = (line-laid i (omega arith), (line-begins i n, all-laid (suc i) n (omega arith)))
 
       -- the numbers of the open lines
-      numbers_ranked : (n i : ℕ) → i + n ≡ count → numbers_from lines n ≡ drop i (open_lines s)
-      unfolding numbers_from open_lines
-      numbers_ranked zero i e =
+      numbers_laid : (i n : ℕ) → i + n ≡ count → numbers_of (lines_from listing i n) ≡ drop i (open_lines s)
+      unfolding numbers_of lines_from open_lines
+      numbers_laid i zero e =
           sym (drop_of_length-le (open_lines s) {i = i} (omega (arith, open_counted, lines-length 0 s)))
-      numbers_ranked (suc n) i e =
-          rw (line_at i (suc n) (omega arith) (omega arith), numbers_ranked n (suc i) (omega arith)) (sym (drop-cons (open_lines s) i 0 (omega (arith, open_counted, lines-length 0 s))))
+      numbers_laid i (suc n) e =
+          rw (number_at i (omega arith), numbers_laid (suc i) n (omega arith)) (sym (drop-cons (open_lines s) i 0 (omega (arith, open_counted, lines-length 0 s))))
 
-      pub open_ranked : open_lines s ≡ numbers_from lines count
-      open_ranked = sym (numbers_ranked count 0 (omega arith))
+      -- all lines are laid out, and none is before the first
+      pub lines_laid : AllLaid own_kits s order (lines_from listing 0 count)
+      lines_laid = all-laid 0 count (omega arith)
+
+      pub lines_listed : open_lines s ≡ numbers_of (lines_from listing 0 count)
+      lines_listed = sym (numbers_laid 0 count (omega arith))
+
+      pub first-right : (u cells : List ℕ) → RightBefore own_kits s u order (lines_from listing 0 count) cells
+      unfolding RightBefore lines_from layer_start
+      first-right u cells = go count
+        where
+          go : (n : ℕ) → RightBefore own_kits s u order (lines_from listing 0 n) cells
+          go zero = tt {0}
+          go (suc n) = record { high = λ j k h e. absurd (omega arith); low = λ j k h e. absurd (omega arith) }
 
 -- ---------------------------------------------------------------------------
 -- The first visit
@@ -312,30 +320,20 @@ first_scene kits t p order percent budget least =
       held = none;
     }
 
--- the numbers that stand for nothing held and no visits
-pub nothing-held : (t : Table) (budget least : ℕ) {best : List ℕ} (W : List ℕ) {x y z : ℕ} {tally : List ℕ} → best ≡ replicate 20 0 → length W ≡ 3 → x ≡ least → y ≡ 0 → z ≡ 0 → tally ≡ set (set (set W 0 x) 1 y) 2 z → Holds t budget least none best tally × (length tally ≡ 3) × (get_or tally 2 0 ≡ 0)
-nothing-held t budget least W {x} {y} {z} zeros three ex ey ez e =
-    let one : length (set W 0 x) ≡ 3 = simp length-set three in
-    let two : length (set (set W 0 x) 1 y) ≡ 3 = simp length-set three in
-    let at0 : get_or (set (set (set W 0 x) 1 y) 2 z) 0 0 ≡ x = get_or-set_other (set (set W 0 x) 1 y) 2 0 z 0 (omega arith) ∙ get_or-set_other (set W 0 x) 1 0 y 0 (omega arith) ∙ get_or-set_same W 0 x 0 (omega arith) in
-    let at1 : get_or (set (set (set W 0 x) 1 y) 2 z) 1 0 ≡ y = get_or-set_other (set (set W 0 x) 1 y) 2 1 z 0 (omega arith) ∙ get_or-set_same (set W 0 x) 1 y 0 (omega (arith, one)) in
-    let at2 : get_or (set (set (set W 0 x) 1 y) 2 z) 2 0 ≡ z = get_or-set_same (set (set W 0 x) 1 y) 2 z 0 (omega (arith, two)) in
-    rw e (
-      record { nothing = λ q. (at0 ∙ ex, at1 ∙ ey, zeros); something = λ q h. absurd (none_not_some h) },
-      simp length-set three,
-      at2 ∙ ez,
-    )
-  where
-    none_not_some : {q : List ℕ} → ◌≡◌ {A = Option (List ℕ)} none (some q) → ⊥
-    none_not_some h =
-        let z : ◌≡◌ {A = ℕ} 0 1 = cc in
-        omega arith
+-- nothing is held, and no visit counted
+pub nothing-held : (t : Table) (budget least : ℕ) {h : Incumbent} → h ≡ none_held least → Holds t budget least none h × (h.visits ≡ 0)
+nothing-held t budget least e =
+    rw e (record { nothing = λ q. (refl, refl, refl); something = λ q h. absurd (some-ne-none q (sym h)) }, refl)
 
 -- What is made of the plan handed in: its marks, and the numbers of its open lines
 pub record Ready (p : List ℕ) (start : Plan) (count : ℕ) (numbers : List ℕ) : Type 0 where
   pub handed : (rows start ≡ p) × (start.marks ≡ padded p) × (length start.marks ≡ 20)
   pub listed : numbers ≡ pad_to 20 (open_lines (rows start))
   pub counted : count ≡ length (open_lines (rows start))
+
+pub made_ready : {d : Decoded} {p numbers : List ℕ} {start : Plan} {count : ℕ} → Sound d → length p ≡ choice_count (table_in d).variables → start.marks ≡ take (min (length p) 20) p ++ replicate (20 - min (length p) 20) 0 → start.count ≡ min (length p) 20 → numbers ≡ pad_to 20 (open_lines (rows start)) → count ≡ length (open_lines (rows start)) → Ready p start count numbers
+made_ready sound long marks count listed counted =
+    record { handed = handed_in _ _ (omega (arith, long, sound.valid.choices)) marks count; listed = listed; counted = counted }
 
 module _ {d : Decoded} {p : List ℕ} (sound : Sound d) (long : length p ≡ choice_count (table_in d).variables) {start : Plan} {count : ℕ} {numbers : List ℕ} (ready : Ready p start count numbers) where
   lists : numbers ≡ pad_to 20 (open_lines p)
@@ -348,46 +346,45 @@ module _ {d : Decoded} {p : List ℕ} (sound : Sound d) (long : length p ≡ cho
   pub first_count : count ≤ 20
   first_count = omega (arith, room, lines-few p, long, sound.valid.choices)
 
-  -- what `write_lines` asks for
+  -- what `lay_lines` asks for
   pub first-few : (i : ℕ) → i < count → (get_or numbers i 0 < 20) × (get_or d.choice_positions (get_or numbers i 0) 0 < 64)
   first-few =
       numbers-few (table_in d) p long count numbers d.choice_positions lists room (choice-positions-own sound.held) sound.valid.choices (omega (arith, sound.valid.variables))
 
   -- all that the first visit is handed
-  pub first_visitable : (kits : List ℕ) → {percent budget least bound left : ℕ} {ends order losses lines cells marks best tally : List ℕ} {l : Layers} → Arranged (table_in d) p bound ends order l losses → lines ≡ lines_written (listing_of numbers d.choice_positions ends kits) count (replicate 84 0) → get_or cells 1 0 ≡ 1 → marks ≡ start.marks → left ≡ budget + 1 - cost_of kits p → LeastPassing (table_in d) percent least → Holds (priced (take (length p) kits) (table_in d)) budget least none best tally → Visitable (first_scene kits (table_in d) p order percent budget least) l losses lines cells marks best tally count left bound
+  pub first_visitable : (kits : List ℕ) → {percent budget least bound left : ℕ} {ends order losses cells marks : List ℕ} {lines : List Line} {h : Incumbent} {l : LaidArcs} → Arranged (table_in d) p bound ends order l losses → lines ≡ lines_from (listing_of numbers d.choice_positions ends kits) 0 count → get_or cells 1 0 ≡ 1 → marks ≡ start.marks → left ≡ budget + 1 - cost_of kits p → LeastPassing (table_in d) percent least → Holds (priced (take (length p) kits) (table_in d)) budget least none h → Visitable (first_scene kits (table_in d) p order percent budget least) l losses lines cells marks h left bound
   unfolding cost priced
-  first_visitable kits {ends = ends} {lines = lines} arranged written heavy same affords passing holds =
-      let ranked : Ranked (listing_of numbers d.choice_positions ends kits) count count lines = rw written (lines_ranked (listing_of numbers d.choice_positions ends kits) count first_count (replicate 84 0) (simp length-replicate)) in
-      let from = ranked.first in
+  first_visitable kits {lines = lines} arranged laid heavy same affords passing holds =
       let list = take (length p) kits in
+      let chosen = choice-positions-own sound.held in
       record {
         ground = record {
           passing = priced-passing list (table_in d) _ _ passing;
           few = sound.valid.choices;
           layered = priced-layered list (table_in d) arranged.layered;
-          layer = λ n more h. priced-line list (table_in d) (layers_ranked (table_in d) p long count numbers d.choice_positions lists room (choice-positions-own sound.held) arranged.ending ranked n more h);
-          priced = kits_ranked (table_in d) p long count numbers d.choice_positions lists room (choice-positions-own sound.held) arranged.ending ranked;
         };
         stands = record {
           settles = record { size = refl; kept = λ i f. refl; later = λ i h. refl };
           marked = same ∙ ready.handed.1;
-          listed = open_ranked (table_in d) p long count numbers d.choice_positions lists room (choice-positions-own sound.held) arranged.ending ranked;
-          few = omega (arith, open_counted (table_in d) p long count numbers d.choice_positions lists room (choice-positions-own sound.held));
+          listed = rw laid (lines_listed (table_in d) p long count numbers d.choice_positions lists room chosen kits arranged.ending);
+          laid = rw laid (lines_laid (table_in d) p long count numbers d.choice_positions lists room chosen kits arranged.ending);
           affords = rw (cost-first kits p) affords;
           bounded = arranged.bounded ∙ sym (priced-bound list (table_in d) p);
-          right = rw from (record { high = λ j k h e. absurd (omega arith); low = λ j k h e. absurd (omega arith) });
+          right = rw laid (first-right (table_in d) p long count numbers d.choice_positions lists room chosen kits arranged.ending _ _);
           rooted = heavy;
         };
         holds = holds;
       }
 
   -- the visits fit
-  pub first-room : {n : ℕ} → n ≡ 0 → n + 2 ^ suc count ≤ 2 ^ 63
-  first-room e = omega (arith, e, pow_mono {i = suc count} {j = 21} (omega (arith, first_count)))
+  pub first-room : {n : ℕ} {lines : List Line} (l : Listing) → n ≡ 0 → lines ≡ lines_from l 0 count → n + 2 ^ suc (length lines) ≤ 2 ^ 63
+  first-room {lines = lines} l e laid =
+      let all : length lines ≡ count = rw laid (laid-length l 0 count) in
+      omega (arith, e, pow_mono {i = suc (length lines)} {j = 21} (omega (arith, all, first_count)))
 
 -- what the first visit leaves is what document 01's search does
-pub first_explored : {t : Table} {p : List ℕ} → Valid t → (kits : List ℕ) → {percent budget least from counted : ℕ} {order cells marks cells' marks' best tally : List ℕ} → counted ≡ 0 → Visited (first_scene kits t p order percent budget least) from counted cells marks cells' marks' best tally → Searched (priced (take (length p) kits) t) percent budget least p best tally
-first_explored {t} {p} valid kits {percent} {budget} {least} {from} {counted} {order} e v =
+pub first_explored : {t : Table} {p : List ℕ} → Valid t → (kits : List ℕ) → {percent budget least counted : ℕ} {order cells marks cells' marks' : List ℕ} {lines : List Line} {h : Incumbent} → counted ≡ 0 → Visited (first_scene kits t p order percent budget least) lines counted cells marks cells' marks' h → Searched (priced (take (length p) kits) t) percent budget least p h
+first_explored {t} {p} valid kits {percent} {budget} {least} {counted} {order} e v =
     let list = take (length p) kits in
     let u = priced list t in
     let formed = priced-formed list t valid.formed in

@@ -1,48 +1,31 @@
--- Checks as steps: what a list of checks finds in a file, one check after the other. Folded from the front, a list computes to what straight code makes.
-use Rattle.std.specs.Prelude.{ℕ, List, [], ◌∷◌}
+-- Checks as steps: what a check finds, what a list of checks finds in a file, and the outcome that a result stands for.
+use Rattle.std.specs.Prelude.{ℕ, List, Result, Ok, Err}
+use Rattle.std.specs.Prelude as code
 use Rattle.std.proofs.Math.Option.{Option, none, some}
 use Rattle.diagram.specs.Checks.{Check}
-use Rattle.steps.specs.declared.verdict.Fault.{Fault}
-use Rattle.steps.specs.declared.verdict.Fault.TheVariants.{At, Nowhere}
-use Rattle.steps.specs.declared.verdict.Bounded.{Bounded}
-use Rattle.steps.specs.declared.verdict.Verdict.{Verdict}
-use Rattle.steps.specs.declared.verdict.Verdict.TheVariants.{Passes, Refused}
-use Rattle.steps.specs.declared.verdict.Measured.{Measured}
+use Rattle.diagram.specs.Services.{Outcome, refused, answered, checked}
+use Rattle.terms.specs.declared.refusal.Refusal.{Refusal}
+use Rattle.terms.specs.Numbers.{reason_number}
 
 -- The place that a check finds, if any
-unfoldable pub fault_of : Option ℕ → Fault
-fault_of none = Nowhere
-fault_of (some i) = At i
+unfoldable pub fault_of : Option ℕ → code.Option ℕ
+fault_of none = code.None
+fault_of (some i) = code.Some i
 
 -- A number where a check finds no fault, and else the place of the fault
-unfoldable pub bounded_by : Option ℕ → ℕ → Bounded
-bounded_by none x = record { fault = Nowhere; value = x }
-bounded_by (some i) x = record { fault = At i; value = 0 }
+unfoldable pub bounded_by : Option ℕ → ℕ → Result ℕ ℕ
+bounded_by none x = Ok x
+bounded_by (some i) x = Err i
 
--- What has been found stands; else the next check finds what it does
-unfoldable pub and_then : Verdict → (number : ℕ) → Fault → Verdict
-and_then (Refused r) n f = Refused r
-and_then Passes n Nowhere = Passes
-and_then Passes n (At i) = Refused (record { number = n; place = i })
+-- What a result stands for: an answer, by what its value stands for, or its refusal's number and place
+unfoldable pub outcome_by : {T A : Type 0} → (T → A) → Result T Refusal → Outcome A
+outcome_by f (Ok x) = answered (f x)
+outcome_by f (Err r) = refused (reason_number r.reason) r.place
 
--- A number where nothing is found, and else 0
-unfoldable pub measured : Verdict → ℕ → Measured
-measured Passes x = record { found = Passes; value = x }
-measured (Refused r) x = record { found = Refused r; value = 0 }
+-- What a list of checks finds in a file: the first fault, or nothing
+abbrev pub finding : List Check → List ℕ → Outcome Unit
+finding cs s = checked cs (λ _. answered tt) s
 
--- The next check with the number that it is about
-abbrev pub and_within : Verdict → (number : ℕ) → Bounded → Measured
-and_within v n b = measured (and_then v n b.fault) b.value
-
--- What a list of checks finds in a file, after what others have found
-unfoldable pub finding_after : Verdict → List Check → List ℕ → Verdict
-finding_after v [] s = v
-finding_after v (c ∷ cs) s = finding_after (and_then v c.number (fault_of (c.fault s))) cs s
-
--- What a list of checks finds in a file
-abbrev pub finding : List Check → List ℕ → Verdict
-finding cs s = finding_after Passes cs s
-
--- What a list of checks finds, after what others have found, and a number where nothing is found
-abbrev pub measuring_after : Verdict → List Check → List ℕ → ℕ → Measured
-measuring_after v cs s x = measured (finding_after v cs s) x
+-- What a list of checks finds in a file, or a number where it finds nothing
+abbrev pub measuring : List Check → List ℕ → ℕ → Outcome ℕ
+measuring cs s x = checked cs (λ _. answered x) s

@@ -1,41 +1,23 @@
-// Checks as steps: what the checks before have found stands, and else the next check finds what it does. A list of checks is then
-// straight code, which can be cut and joined.
+// A check that finds a fault refuses, for its reason. A list of checks is then straight code with `?`, which can be cut and joined.
 #![tactic(auto)]
 
-mod verdict;
+ghost use Rattle.std.specs.Prelude.{◌≡◌, Some, None, Ok, Err, MatchResult};
 
-ghost use Rattle.std.specs.Prelude.{◌≡◌};
-ghost use Rattle.steps.specs.Steps.{and_then, and_within};
+use terms::{Reason, Refusal};
 
-use terms::Refusal;
-pub use verdict::{Bounded, Fault, Measured, Verdict};
-
-// One check more.
-pub fn and_then(found: Verdict, number: u8, fault: Fault) -> Verdict
-    ensures { result ≡ and_then found number fault }
+// A check's step: it refuses the place that the check finds at fault, a word of the file or an index of the plan.
+pub fn refuse_at(reason: Reason, fault: Option<usize>) -> Result<(), Refusal>
+    ensures { MatchResult result (λ _. fault ≡ None) (λ r. (fault ≡ Some r.place) × (r.reason ≡ reason)) }
 {
-    match found {
-        Verdict::Refused(r) => Verdict::Refused(r),
-        Verdict::Passes => match fault {
-            Fault::At(place) => Verdict::Refused(Refusal { number, place }),
-            Fault::Nowhere => Verdict::Passes,
-        },
+    match fault {
+        Some(place) => Err(Refusal { reason, place }),
+        None => Ok(()),
     }
 }
 
-// One check more, of a number that has a limit. It is 0 where a fault is found.
-pub fn and_within(found: Verdict, number: u8, bounded: Bounded) -> Measured
-    ensures { result ≡ and_within found number bounded }
+// The step of a check of a number that has a limit: it hands on the number, or refuses the place where it first is above.
+pub fn refuse_above(reason: Reason, bounded: Result<u64, usize>) -> Result<u64, Refusal>
+    ensures { MatchResult result (λ x. bounded ≡ Ok x) (λ r. (bounded ≡ Err r.place) × (r.reason ≡ reason)) }
 {
-    let fault = bounded.fault;
-    match and_then(found, number, fault) {
-        Verdict::Passes => Measured {
-            found: Verdict::Passes,
-            value: bounded.value,
-        },
-        Verdict::Refused(r) => Measured {
-            found: Verdict::Refused(r),
-            value: 0,
-        },
-    }
+    bounded.map_err(|place| Refusal { reason, place })
 }

@@ -13,5 +13,5 @@ pub use limits::{
 };
 pub use numbering::{Choice, Node, Position};
 pub use plan::Plan;
-pub use refusal::Refusal;
-pub use word::{field_p, field_q, field_r, kind, word_at};
+pub use refusal::{Reason, Refusal};
+pub use word::{Kind, field_p, field_q, field_r, has_kind, word_at};

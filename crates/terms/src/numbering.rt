@@ -2,15 +2,15 @@
 ghost use Rattle.std.specs.Prelude.{◌≡◌, ◌+◌, ◌<◌};
 
 // A choice number: the choices are numbered from 0 by position.
-#[derive(Clone, Copy)]
+#[derive(Clone, Copy, PartialEq, Eq, PartialOrd, Ord)]
 pub struct Choice(u8);
 
 // A variable position, from 0. The two ends stand at the position after the last variable.
-#[derive(Clone, Copy)]
+#[derive(Clone, Copy, PartialEq, Eq, PartialOrd, Ord)]
 pub struct Position(u8);
 
 // A node number: 0 and 1 are the ends false and true, and record k, from 0, is node k + 2.
-#[derive(Clone, Copy)]
+#[derive(Clone, Copy, PartialEq, Eq, PartialOrd, Ord)]
 pub struct Node(u8);
 
 impl Choice {
@@ -23,7 +23,7 @@ impl Choice {
     pub fn number(self) -> usize
         ensures { result ≡ self.0 }
     {
-        self.0 as usize
+        usize::from(self.0)
     }
 }
 
@@ -37,14 +37,14 @@ impl Position {
     pub fn number(self) -> usize
         ensures { result ≡ self.0 }
     {
-        self.0 as usize
+        usize::from(self.0)
     }
 
     // The word of the variable that stands here.
     pub fn word(self) -> usize
         ensures { result ≡ 1 + self.0 }
     {
-        1 + self.0 as usize
+        1 + usize::from(self.0)
     }
 }
 
@@ -58,7 +58,7 @@ impl Node {
     pub fn number(self) -> usize
         ensures { result ≡ self.0 }
     {
-        self.0 as usize
+        usize::from(self.0)
     }
 
     // The number as a byte, to be stored.

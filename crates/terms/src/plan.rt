@@ -26,7 +26,7 @@ impl Plan {
     {
         Plan {
             marks: [Plan::OPEN; 20],
-            count: most(count),
+            count: count.min(Plan::MOST),
         }
     }
 
@@ -35,13 +35,9 @@ impl Plan {
         ensures marks { result.marks ≡ replicate (min count 20) 1 ++ replicate (20 - min count 20) 0 }
         ensures count { result.count ≡ min count 20 }
     {
-        let n = most(count);
+        let n = count.min(Plan::MOST);
         let mut marks = [Plan::OPEN; 20];
-        let mut i = 0;
-        while i < n {
-            marks[i] = Plan::TAKEN;
-            i += 1;
-        }
+        marks[..n].fill(Plan::TAKEN);
         Plan { marks, count: n }
     }
 
@@ -50,24 +46,9 @@ impl Plan {
         ensures marks { result.marks ≡ take (min (length bytes.now) 20) bytes.now ++ replicate (20 - min (length bytes.now) 20) 0 }
         ensures count { result.count ≡ min (length bytes.now) 20 }
     {
-        let n = most(bytes.len());
+        let n = bytes.len().min(Plan::MOST);
         let mut marks = [Plan::OPEN; 20];
-        let mut i = 0;
-        while i < n {
-            marks[i] = bytes[i];
-            i += 1;
-        }
+        marks[..n].copy_from_slice(&bytes[..n]);
         Plan { marks, count: n }
-    }
-}
-
-// A number of choices, cut to the most there are.
-fn most(count: usize) -> usize
-    ensures { result ≡ min count 20 }
-{
-    if count < Plan::MOST {
-        count
-    } else {
-        Plan::MOST
     }
 }

@@ -1,14 +1,14 @@
-// The lines of the printout. Each function writes from an index on and answers the index after what it has written; whoever
-// calls has the room that it asks for.
+// The lines of the printout, each appended to a text; whoever calls has the room that it asks for.
 #![tactic(auto)]
 
-ghost use Rattle.std.specs.Prelude.{◌+◌, ◌*◌, ◌≤◌, ◌<◌, length};
+ghost use Rattle.std.specs.Prelude.{ℕ, ◌+◌, ◌*◌, ◌≤◌, length};
 ghost use Rattle.diagram.specs.Printout.{refusal_text, mark_lines};
-ghost use Rattle.writing.specs.Wrote.{Wrote};
+ghost use Rattle.terms.specs.Numbers.{reason_number};
+ghost use Rattle.writing.specs.Wrote.{Appends};
 ghost use Rattle.text.specs.Lines.{table_text, found_text, mark_text, full_text};
 
-use terms::Plan;
-use writing::{put_decimal, put_word};
+use terms::{Plan, Refusal};
+use writing::Text;
 
 // The numbers of a plan's printout: how many choices there are and B, and the plan's cost, its score and the visits.
 #[derive(Clone, Copy)]
@@ -20,80 +20,77 @@ pub struct Numbers {
     pub visits: u64,
 }
 
-// Writes the line of a refusal. The buffer is `print`'s, of 1,024 bytes.
-pub fn put_refusal(out: &mut [u8], number: u8, place: usize) -> usize
-    requires { 50 ≤ length out.old }
-    ensures { Wrote out.old 0 out.new result (refusal_text number place) }
+// Appends the line of a refusal.
+pub fn put_refusal(text: &mut Text, refusal: Refusal)
+    requires { text.old.count + 50 ≤ 1024 }
+    ensures { Appends text.old (refusal_text (reason_number refusal.reason) refusal.place) text.new }
 {
-    let a = put_word(out, 0, b"refused ");
-    let b = put_decimal(out, a, number as u64);
-    let c = put_word(out, b, b" ");
-    let d = put_decimal(out, c, place as u64);
-    put_word(out, d, b"\n")
+    text.word(b"refused ");
+    text.number(u64::from(u8::from(refusal.reason)));
+    text.word(b" ");
+    text.number(refusal.place as u64);
+    text.word(b"\n");
 }
 
-// Writes the three parts of a plan's printout. `put_search` hands in the plan of an accepted table, of at most 20 lines, and the
-// buffer is `print`'s, of 1,024 bytes.
-pub fn put_plan(out: &mut [u8], shown: Numbers, plan: &[u8]) -> usize
-    requires { (length plan.now ≤ 20) × (700 ≤ length out.old) }
-    ensures { Wrote out.old 0 out.new result (full_text shown.choices shown.scale shown.cost shown.score shown.visits plan.now) }
+// Appends the three parts of a plan's printout. `put_job` hands in the plan of an accepted table, of at most 20 lines.
+pub fn put_plan(text: &mut Text, shown: Numbers, plan: &[u8])
+    requires { (length plan.now ≤ 20) × (text.old.count + 700 ≤ 1024) }
+    ensures { Appends text.old (full_text shown.choices shown.scale shown.cost shown.score shown.visits plan.now) text.new }
 {
-    let a = put_table(out, shown.choices as u64, shown.scale);
-    let b = put_found(out, a, shown.cost, shown.score, shown.visits);
-    put_marks(out, b, plan)
+    put_table(text, shown);
+    put_found(text, shown);
+    put_marks(text, plan);
 }
 
-// Writes the line of the table's numbers.
-fn put_table(out: &mut [u8], choices: u64, scale: u64) -> usize
-    requires { 60 ≤ length out.old }
-    ensures { Wrote out.old 0 out.new result (table_text choices scale) }
+// Appends the line of the table's numbers.
+fn put_table(text: &mut Text, shown: Numbers)
+    requires { text.old.count + 60 ≤ 1024 }
+    ensures appends { Appends text.old (table_text shown.choices shown.scale) text.new }
+    ensures count { text.new.count ≤ text.old.count + 60 }
 {
-    let a = put_word(out, 0, b"choices ");
-    let b = put_decimal(out, a, choices);
-    let c = put_word(out, b, b" scale ");
-    let d = put_decimal(out, c, scale);
-    put_word(out, d, b"\n")
+    text.word(b"choices ");
+    text.number(shown.choices as u64);
+    text.word(b" scale ");
+    text.number(shown.scale);
+    text.word(b"\n");
 }
 
-// Writes the line of the plan's cost, its score and the visits.
-fn put_found(out: &mut [u8], at: usize, cost: u64, score: u64, visits: u64) -> usize
-    requires { at + 90 ≤ length out.old }
-    ensures { Wrote out.old at out.new result (found_text cost score visits) }
+// Appends the line of the plan's cost, its score and the visits.
+fn put_found(text: &mut Text, shown: Numbers)
+    requires { text.old.count + 90 ≤ 1024 }
+    ensures appends { Appends text.old (found_text shown.cost shown.score shown.visits) text.new }
+    ensures count { text.new.count ≤ text.old.count + 90 }
 {
-    let a = put_word(out, at, b"kits ");
-    let b = put_decimal(out, a, cost);
-    let c = put_word(out, b, b" score ");
-    let d = put_decimal(out, c, score);
-    let e = put_word(out, d, b" visits ");
-    let f = put_decimal(out, e, visits);
-    put_word(out, f, b"\n")
+    text.word(b"kits ");
+    text.number(shown.cost);
+    text.word(b" score ");
+    text.number(shown.score);
+    text.word(b" visits ");
+    text.number(shown.visits);
+    text.word(b"\n");
 }
 
-// Writes a line for each choice: its number and its mark.
-fn put_marks(out: &mut [u8], at: usize, plan: &[u8]) -> usize
-    requires { (length plan.now ≤ 20) × (at + 26 * length plan.now ≤ length out.old) }
-    ensures { Wrote out.old at out.new result (mark_lines 0 plan.now) }
+// Appends a line for each choice: its number and its mark.
+fn put_marks(text: &mut Text, plan: &[u8])
+    requires { (length plan.now ≤ 20) × (text.old.count + 26 * length plan.now ≤ 1024) }
+    ensures { Appends text.old (mark_lines 0 plan.now) text.new }
 {
-    let n = plan.len();
-    let mut end = at;
-    let mut i = 0;
-    while i < n {
-        end = put_mark(out, end, i, plan[i]);
-        i += 1;
+    for (choice, mark) in plan.iter().enumerate() {
+        put_mark(text, choice, *mark);
     }
-    end
 }
 
-// Writes the line of one choice.
-fn put_mark(out: &mut [u8], at: usize, choice: usize, mark: u8) -> usize
-    requires { at + 26 ≤ length out.old }
-    ensures { Wrote out.old at out.new result (mark_text choice mark) }
+// Appends the line of one choice.
+fn put_mark(text: &mut Text, choice: usize, mark: u8)
+    requires { text.old.count + 26 ≤ 1024 }
+    ensures appends { Appends text.old (mark_text choice mark) text.new }
+    ensures count { text.new.count ≤ text.old.count + 26 }
 {
-    let a = put_decimal(out, at, choice as u64);
-    let b = if mark == Plan::TAKEN {
-        put_word(out, a, b" take")
+    text.number(choice as u64);
+    text.word(if mark == Plan::TAKEN {
+        b" take"
     } else {
-        put_word(out, a, b" left")
-    };
-    put_word(out, b, b"\n")
+        b" left"
+    });
+    text.word(b"\n");
 }

@@ -1,126 +1,90 @@
--- What an answer of a service is, from the outcome that it stands for.
+-- What a service's result is, from the outcome that it stands for.
 -- Assumes nothing.
 use Prim.Native.Nat.{ℕ}
 use native.Mathlib.Omega.{arith}
-use mathlib.Core.Path.{◌≡◌, refl, ap, sym}
-use mathlib.Core.List.{List}
-use Rattle.diagram.specs.Services.{Outcome, refused, answered, Reading, Sweeping, Filtering, Searching}
-use Rattle.terms.specs.declared.refusal.Refusal.{Refusal}
+use mathlib.Core.Path.{◌≡◌, refl, ap, sym, ◌∙◌}
+use mathlib.Core.Bool.{cond}
+use lib.Dec.{eqb}
+use Rattle.std.specs.Prelude.{Result, Ok, Err}
+use Rattle.diagram.specs.Services.{refused, answered}
 use Rattle.diagram.proofs.Checked.{answered_not_refused}
-use Rattle.reading.specs.declared.answer.ReadAnswer.{ReadAnswer}
-use Rattle.reading.specs.declared.answer.ReadAnswer.TheVariants as read
-use Rattle.reading.specs.Answer as reads
-use Rattle.scoring.specs.declared.answer.ScoreAnswer.{ScoreAnswer}
-use Rattle.scoring.specs.declared.answer.ScoreAnswer.TheVariants as score
-use Rattle.scoring.specs.Answer as scores
-use Rattle.sweep.specs.declared.answer.SweepAnswer.{SweepAnswer}
-use Rattle.sweep.specs.declared.answer.SweepAnswer.TheVariants as sweep
-use Rattle.filtering.specs.declared.answer.FilterAnswer.{FilterAnswer}
-use Rattle.filtering.specs.declared.answer.FilterAnswer.TheVariants as filter
-use Rattle.filtering.specs.Answer.{filter_of}
-use Rattle.sweep.specs.Answer.{sweep_of}
-use Rattle.search.specs.declared.answer.Finding.{Finding}
-use Rattle.search.specs.declared.answer.SearchAnswer.{SearchAnswer}
-use Rattle.search.specs.declared.answer.SearchAnswer.TheVariants as search
-use Rattle.search.specs.Answer.{search_of}
-
--- the refusal of a number and a place
-same_refusal : {A : Type 0} (r : Refusal) {n i : ℕ} → ◌≡◌ {A = Outcome A} (refused r.number r.place) (refused n i) → r ≡ record { number = n; place = i }
-same_refusal r {n} {i} e =
-    let a : r.number ≡ n = cc in
-    let b : r.place ≡ i = cc in
-    rw (← a, ← b) refl
-
--- what is answered, where it is answered
-same_answer : {A : Type 0} {x y : A} → answered x ≡ answered y → x ≡ y
-same_answer e = cc
-
--- an answer where a refusal stands
-refused_not_answered : {A : Type 0} (r : Refusal) (a : A) → refused r.number r.place ≡ answered a → ⊥
-refused_not_answered r a e = answered_not_refused a r.number r.place (sym e)
+use Rattle.terms.specs.declared.refusal.Reason.{Reason}
+use Rattle.terms.specs.declared.refusal.Reason.TheVariants as reason
+use Rattle.terms.specs.declared.refusal.Refusal.{Refusal}
+use Rattle.terms.specs.Numbers.{reason_number}
+use Rattle.steps.specs.Steps.{outcome_by}
+use Rattle.theorems.specs.Demand1.{Refuses}
 
 -- ---------------------------------------------------------------------------
--- Reading
+-- Reasons by their numbers
 
-pub read-refused : (answer : ReadAnswer) {n i : ℕ} → reads.outcome_of answer ≡ refused n i → answer ≡ read.Refused (record { number = n; place = i })
-unfolding reads.outcome_of
-read-refused (read.Table t) e = absurd (answered_not_refused _ _ _ e)
-read-refused (read.Refused r) e = ap read.Refused (same_refusal r e)
+-- the reason of a number
+unfoldable reason_of : ℕ → Reason
+reason_of n =
+    cond (eqb n 10) reason.NoJob
+    (cond (eqb n 11) reason.Length
+    (cond (eqb n 12) reason.Heading
+    (cond (eqb n 13) reason.Counts
+    (cond (eqb n 14) reason.Variable
+    (cond (eqb n 15) reason.Choices
+    (cond (eqb n 16) reason.Product
+    (cond (eqb n 17) reason.Record
+    (cond (eqb n 18) reason.Monotony
+    (cond (eqb n 21) reason.PlanLength
+    (cond (eqb n 22) reason.Mark
+    (cond (eqb n 23) reason.Percentage
+    (cond (eqb n 24) reason.Budget
+    (cond (eqb n 25) reason.Buffer
+    (cond (eqb n 26) reason.Root
+    (cond (eqb n 27) reason.Scale
+    (cond (eqb n 31) reason.BelowPercentage reason.NoCandidate))))))))))))))))
 
-pub table_is : (answer : ReadAnswer) {x : Reading} → reads.outcome_of answer ≡ answered x → answer ≡ read.Table (record { variables = x.variables; records = x.records; choices = x.choices; scale = x.scale })
-unfolding reads.outcome_of
-table_is (read.Table t) e =
-    ap (λ (a : Reading). read.Table (record { variables = a.variables; records = a.records; choices = a.choices; scale = a.scale })) (same_answer e)
-table_is (read.Refused r) e = absurd (refused_not_answered r _ e)
+-- each reason has a number of its own
+numbered : (r : Reason) → reason_of (reason_number r) ≡ r
+unfolding reason_of reason_number
+numbered reason.NoJob = refl
+numbered reason.Length = refl
+numbered reason.Heading = refl
+numbered reason.Counts = refl
+numbered reason.Variable = refl
+numbered reason.Choices = refl
+numbered reason.Product = refl
+numbered reason.Record = refl
+numbered reason.Monotony = refl
+numbered reason.PlanLength = refl
+numbered reason.Mark = refl
+numbered reason.Percentage = refl
+numbered reason.Budget = refl
+numbered reason.Buffer = refl
+numbered reason.Root = refl
+numbered reason.Scale = refl
+numbered reason.BelowPercentage = refl
+numbered reason.NoCandidate = refl
 
--- ---------------------------------------------------------------------------
--- The score
-
-pub score-refused : (answer : ScoreAnswer) {n i : ℕ} → scores.outcome_of answer ≡ refused n i → answer ≡ score.Refused (record { number = n; place = i })
-unfolding scores.outcome_of
-score-refused (score.Score x) e = absurd (answered_not_refused _ _ _ e)
-score-refused (score.Refused r) e = ap score.Refused (same_refusal r e)
-
-pub score-is : (answer : ScoreAnswer) {x : ℕ} → scores.outcome_of answer ≡ answered x → answer ≡ score.Score x
-unfolding scores.outcome_of
-score-is (score.Score y) e = ap score.Score (same_answer e)
-score-is (score.Refused r) e = absurd (refused_not_answered r _ e)
-
--- ---------------------------------------------------------------------------
--- The sweep, with its drops
-
-module _ (drops : List ℕ) where
-  pub sweep_refused : (answer : SweepAnswer) {n i : ℕ} → sweep_of answer drops ≡ refused n i → answer ≡ sweep.Refused (record { number = n; place = i })
-  unfolding sweep_of
-  sweep_refused (sweep.Bound x) e = absurd (answered_not_refused _ _ _ e)
-  sweep_refused (sweep.Refused r) e = ap sweep.Refused (same_refusal r e)
-
-  pub bound-is : (answer : SweepAnswer) {a : Sweeping} → sweep_of answer drops ≡ answered a → (answer ≡ sweep.Bound a.upper_bound) × (drops ≡ a.derivatives)
-  unfolding sweep_of
-  bound-is (sweep.Bound x) e =
-      (ap (λ (a : Sweeping). sweep.Bound a.upper_bound) (same_answer e), ap (λ (a : Sweeping). a.derivatives) (same_answer e))
-  bound-is (sweep.Refused r) e = absurd (refused_not_answered r _ e)
-
--- ---------------------------------------------------------------------------
--- The filter, with its plan
-
-module _ (plan : List ℕ) where
-  pub filter-refused : (answer : FilterAnswer) {n i : ℕ} → filter_of answer plan ≡ refused n i → answer ≡ filter.Refused (record { number = n; place = i })
-  unfolding filter_of
-  filter-refused (filter.Forced x) e = absurd (answered_not_refused _ _ _ e)
-  filter-refused (filter.Refused r) e = ap filter.Refused (same_refusal r e)
-
-  pub forced-is : (answer : FilterAnswer) {a : Filtering} → filter_of answer plan ≡ answered a → (answer ≡ filter.Forced a.forced) × (plan ≡ a.plan)
-  unfolding filter_of
-  forced-is (filter.Forced x) e =
-      (ap (λ (a : Filtering). filter.Forced a.forced) (same_answer e), ap (λ (a : Filtering). a.plan) (same_answer e))
-  forced-is (filter.Refused r) e = absurd (refused_not_answered r _ e)
-
--- no answer is a number of lines and a refusal
-pub forced_not_refused : {n : ℕ} {r : Refusal} → filter.Forced n ≡ filter.Refused r → ⊥
-forced_not_refused e =
-    let z : ◌≡◌ {A = ℕ} 0 1 = cc in
-    omega arith
+-- a result that refuses with the number of a reason and a place is that refusal
+pub refusal_is : {T : Type 0} {answer : Result T Refusal} (q : Reason) {i : ℕ} → Refuses (reason_number q) i answer → answer ≡ Err (record { reason = q; place = i })
+refusal_is q (r, is, number, place) =
+    let same : r.reason ≡ q = sym (numbered r.reason) ∙ ap reason_of number ∙ numbered q in
+    is ∙ rw (← same, ← place) refl
 
 -- ---------------------------------------------------------------------------
--- The search, with its plan
+-- Outcomes
 
-module _ (plan : List ℕ) where
-  pub search_refused : (answer : SearchAnswer) {n i : ℕ} → search_of answer plan ≡ refused n i → answer ≡ search.Refused (record { number = n; place = i })
-  unfolding search_of
-  search_refused (search.Found f) e = absurd (answered_not_refused _ _ _ e)
-  search_refused (search.Refused r) e = ap search.Refused (same_refusal r e)
+module _ {T A : Type 0} (f : T → A) where
+  -- a result that stands for a refusal refuses with its number and place
+  pub refuses_by : (answer : Result T Refusal) {n i : ℕ} → outcome_by f answer ≡ refused n i → Refuses n i answer
+  unfolding outcome_by
+  refuses_by (Ok x) e = absurd (answered_not_refused _ _ _ e)
+  refuses_by (Err r) e = (r, refl, cc, cc)
 
-  pub found-is : (answer : SearchAnswer) {a : Searching} → search_of answer plan ≡ answered a → (answer ≡ search.Found (record { score = a.score; visits = a.visits })) × (plan ≡ a.plan)
-  unfolding search_of
-  found-is (search.Found f) e = (
-    ap (λ (a : Searching). search.Found (record { score = a.score; visits = a.visits })) (same_answer e),
-    ap (λ (a : Searching). a.plan) (same_answer e),
-  )
-  found-is (search.Refused r) e = absurd (refused_not_answered r _ e)
+  -- and one that stands for an answer has a value that does
+  pub answers_by : (answer : Result T Refusal) {a : A} → outcome_by f answer ≡ answered a → ((x : T) × (answer ≡ Ok x) × (f x ≡ a))
+  unfolding outcome_by
+  answers_by (Ok x) e = (x, refl, cc)
+  answers_by (Err r) e = absurd (answered_not_refused _ _ _ (sym e))
 
--- no answer is a finding and a refusal
-pub found_not_refused : {f : Finding} {r : Refusal} → search.Found f ≡ search.Refused r → ⊥
-found_not_refused e =
+-- no result is a value and a refusal
+pub ok_not_err : {T : Type 0} {x : T} {r : Refusal} → ◌≡◌ {A = Result T Refusal} (Ok x) (Err r) → ⊥
+ok_not_err e =
     let z : ◌≡◌ {A = ℕ} 0 1 = cc in
     omega arith

@@ -3,7 +3,7 @@
 -- Assumes nothing.
 use Prim.Native.Nat.{ℕ}
 use native.Mathlib.Omega.{arith}
-use mathlib.Core.Path.{◌≡◌, refl, sym, ◌∙◌}
+use mathlib.Core.Path.{◌≡◌, refl, ap, sym, ◌∙◌}
 use mathlib.Core.Bool.{Bool, true, false, false≢true}
 use mathlib.Core.Option.{Option, none, some}
 use mathlib.Core.List.{List, [], ◌∷◌}
@@ -14,23 +14,20 @@ use Rattle.diagram.specs.Plans.{completions, none_of, passing, forced_plan, forc
 use Rattle.diagram.specs.Ranking.{best_plan}
 use Rattle.diagram.specs.Visits.{visit_count}
 use Rattle.diagram.specs.Checks.{job_fault, job_checks, score_checks, sweep_checks, filter_checks, search_checks}
-use Rattle.diagram.specs.Services.{Outcome, refused, answered, written, reading, Searching, score_outcome, sweep_outcome, sweep_buffer, filtering, filter_outcome, filter_buffer, searching, search_outcome, search_buffer}
+use Rattle.diagram.specs.Services.{Outcome, refused, answered, written, Reading, reading, Searching, score_outcome, sweep_outcome, sweep_buffer, filtering, filter_outcome, filter_buffer, searching, search_outcome, search_buffer}
 use Rattle.diagram.specs.Printout.{refusal_text, plan_text, search_text, job_outcome, job_kits, program_outcome, printout}
 use Rattle.terms.specs.declared.refusal.Refusal.{Refusal}
 use Rattle.diagram.proofs.Checked.{checked-passes, checked_stops, checked_end, answered_not_refused, read-reading, read_passed}
-use Rattle.reading.specs.declared.answer.ReadAnswer.TheVariants as read_answer
-use Rattle.reading.specs.Answer as reads
-use Rattle.scoring.specs.declared.answer.ScoreAnswer.TheVariants as score-answer
-use Rattle.scoring.specs.Answer as scores
-use Rattle.sweep.specs.declared.answer.SweepAnswer.TheVariants as sweep-answer
-use Rattle.filtering.specs.declared.answer.FilterAnswer.TheVariants as filter-answer
-use Rattle.filtering.specs.Answer.{filter_of}
+use Rattle.std.specs.Prelude.{Result, Ok}
+use Rattle.steps.specs.Steps.{outcome_by}
 use Rattle.sweep.specs.Answer.{sweep_of}
-use Rattle.search.specs.declared.answer.SearchAnswer.TheVariants as search-answer
+use Rattle.filtering.specs.Answer.{filter_of}
 use Rattle.search.specs.Answer.{search_of}
+use Rattle.reading.specs.declared.answer.Summary.{Summary}
+use Rattle.reading.specs.Answer.{numbers}
 use Rattle.theorems.specs.Reasons.{Request, Reason, no_way_passes, no_candidate, number_of, Wrong, file_reasons, score_reasons, sweep_reasons, filter_reasons, search_reasons, program_reasons, at_first, no_row, passes_row}
-use Rattle.theorems.specs.Demand1.{Judged, refuses, serves, Services, job_of, Finds, Demand1}
-use Rattle.theorems.proofs.Answers.{read-refused, table_is, score-refused, score-is, sweep_refused, bound-is, filter-refused, forced-is, search_refused, found-is}
+use Rattle.theorems.specs.Demand1.{Judged, Refuses, IsRead, refuses, serves, Services, job_of, Finds, Demand1}
+use Rattle.theorems.proofs.Answers.{refuses_by, answers_by}
 use Rattle.theorems.proofs.Completing.{no_way_passes_lem}
 use Rattle.theorems.proofs.Deciding.{Decided, stops, answers, end, row, one_more, decided_as, decide, at_once, file-rows, rendered_append, read-decided}
 use Rattle.theorems.proofs.Demanded2.{none-holds, best-candidate}
@@ -120,10 +117,16 @@ program_finds input found e = go (job_fault (take 1329 input)) refl
 -- ---------------------------------------------------------------------------
 -- From an outcome to an answer
 
--- an answer that stands for a decided outcome
-judge : {Answer A : Type 0} {q : Request} {rs : List Reason} {o : Outcome A} (stands : Answer → Outcome A) (refuse : Refusal → Answer) (Served : Answer → Type 0) (answer : Answer) → ((n i : ℕ) → stands answer ≡ refused n i → answer ≡ refuse (record { number = n; place = i })) → ((a : A) → o ≡ answered a → stands answer ≡ answered a → Served answer) → stands answer ≡ o → Decided q rs o → Judged q rs refuse Served answer
-judge stands refuse Served answer back serve e (stops {n} {i} t f) = refuses n i t (back n i (e ∙ f))
-judge stands refuse Served answer back serve e (answers a l f) = serves l (serve a f (e ∙ f))
+-- a result that stands for a decided outcome
+judge : {T A : Type 0} {q : Request} {rs : List Reason} {o : Outcome A} (part : T → A) (Served : Result T Refusal → Type 0) (answer : Result T Refusal) → ((a : A) → o ≡ answered a → (x : T) → answer ≡ Ok x → part x ≡ a → Served answer) → outcome_by part answer ≡ o → Decided q rs o → Judged q rs Refuses Served answer
+judge part Served answer serve e (stops {n} {i} t f) = refuses n i t (refuses_by part answer (e ∙ f))
+judge part Served answer serve e (answers a l f) =
+    let is = answers_by part answer (e ∙ f) in
+    serves l (serve a f is.0 is.1 is.2)
+
+-- and has a value where one is demanded
+judge_value : {T A : Type 0} {q : Request} {rs : List Reason} {o : Outcome A} (part : T → A) (answer : Result T Refusal) → outcome_by part answer ≡ o → Decided q rs o → Judged q rs Refuses (λ a. (x : T) × (a ≡ Ok x)) answer
+judge_value part answer = judge part _ answer (λ a f x is same. (x, is))
 
 -- a refused request leaves the buffer as it was
 kept : {A : Type 0} (part : A → List ℕ) {o : Outcome A} (held : List ℕ) {n i : ℕ} → refused n i ≡ o → written part o held ≡ held
@@ -131,36 +134,35 @@ unfolding written
 kept part held e = rw (← e) refl
 
 -- a text that is printed of a decided outcome
-judge_text : {q : Request} {rs : List Reason} {o : Outcome Searching} (t : Table) (text : List ℕ) → ((found : Searching) → o ≡ answered found → Finds q found) → text ≡ search_text t o → Decided q rs o → Judged q rs (λ r. refusal_text r.number r.place) (λ a. (found : Searching) × Finds q found × (a ≡ plan_text t found)) text
+judge_text : {q : Request} {rs : List Reason} {o : Outcome Searching} (t : Table) (text : List ℕ) → ((found : Searching) → o ≡ answered found → Finds q found) → text ≡ search_text t o → Decided q rs o → Judged q rs (λ number place a. a ≡ refusal_text number place) (λ a. (found : Searching) × Finds q found × (a ≡ plan_text t found)) text
 unfolding search_text
 judge_text t text finds e (stops {n} {i} s f) = refuses n i s (e ∙ rw f refl)
 judge_text t text finds e (answers a l f) = serves l (a, finds a f, e ∙ rw f refl)
 
+-- the numbers read are those of the file
+summary_is : (t : Summary) {a : Reading} → numbers t ≡ a → t ≡ record { variables = a.variables; records = a.records; choices = a.choices; scale = a.scale }
+summary_is t e =
+    ap (λ (a : Reading). record { variables = a.variables; records = a.records; choices = a.choices; scale = a.scale }) e
+
 -- the five services
 services : (q : Request) → Services q
-unfolding Services reading sweep_buffer filter_buffer search_buffer sweep_of filter_of search_of
+unfolding Services reading sweep_buffer filter_buffer search_buffer outcome_by
 services q = (
   λ answer e.
-      judge reads.outcome_of read_answer.Refused _ answer (λ n i. read-refused answer)
-      (λ a f g. (whole_table (read_passed q.file a f), table_is answer g ∙ rw (read-reading q.file a f) refl))
+      judge numbers (IsRead q.file) answer
+      (λ a f x is same. (whole_table (read_passed q.file a f), is ∙ ap Ok (summary_is x (same ∙ read-reading q.file a f))))
       e
       (read-decided q),
-  λ answer e. judge scores.outcome_of score-answer.Refused _ answer (λ n i. score-refused answer) (λ a f g. (a, score-is answer g)) e (score-decided q),
+  λ answer e. judge_value _ answer e (score-decided q),
   λ held drops answer size e b.
-      let p : sweep_of answer drops ≡ sweep_outcome q.file q.plan q.size = rw (← size) e in (
-        judge (λ a. sweep_of a drops) sweep-answer.Refused _ answer (λ n i. sweep_refused drops answer) (λ a f g. (a.upper_bound, (bound-is drops answer g).0)) p (sweep_decided q),
-        λ r is. b ∙ kept _ held (rw is at e),
-      ),
+      let p : sweep_of answer drops ≡ sweep_outcome q.file q.plan q.size = rw (← size) e in
+      (judge_value _ answer p (sweep_decided q), λ r is. b ∙ kept _ held (rw is at e)),
   λ held plan answer size e b.
-      let p : filter_of answer plan ≡ filter_outcome q.file q.plan q.percent q.size = rw (← size) e in (
-        judge (λ a. filter_of a plan) filter-answer.Refused _ answer (λ n i. filter-refused plan answer) (λ a f g. (a.forced, (forced-is plan answer g).0)) p (filter-decided q),
-        λ r is. b ∙ kept _ held (rw is at e),
-      ),
+      let p : filter_of answer plan ≡ filter_outcome q.file q.plan q.percent q.size = rw (← size) e in
+      (judge_value _ answer p (filter-decided q), λ r is. b ∙ kept _ held (rw is at e)),
   λ held plan answer size e b.
-      let p : search_of answer plan ≡ search_outcome q.file q.plan q.budget q.percent q.size = rw (← size) e in (
-        judge (λ a. search_of a plan) search-answer.Refused _ answer (λ n i. search_refused plan answer) (λ a f g. (_, (found-is plan answer g).0)) p (search_decided q),
-        λ r is. b ∙ kept _ held (rw is at e),
-      ),
+      let p : search_of answer plan ≡ search_outcome q.file q.plan q.budget q.percent q.size = rw (← size) e in
+      (judge_value _ answer p (search_decided q), λ r is. b ∙ kept _ held (rw is at e)),
 )
 
 -- demand 1: the promises of the services and of the program are turned into what is demanded

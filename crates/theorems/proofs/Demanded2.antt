@@ -16,20 +16,23 @@ use Rattle.diagram.specs.Score.{sum, score, score_from, rewarded, total}
 use Rattle.diagram.specs.Plans.{cost, passing, passes, Completes, complete, takes, leaves_open, keeps}
 use Rattle.diagram.specs.Ranking.{takes_first, ranks_before, is_candidate, best_plan}
 use Rattle.diagram.specs.Checks.{full_plan_fault, score_checks}
-use Rattle.diagram.specs.Services.{answered, written, score_outcome, searching, search_buffer}
+use Rattle.diagram.specs.Services.{Searching, answered, written, score_outcome, searching, search_buffer}
 use Rattle.diagram.proofs.Every.{both, and_true_both}
 use Rattle.diagram.proofs.Places.{no_place}
 use Rattle.diagram.proofs.Checked.{checked-passes, checked_end, read-answers}
 use Rattle.rule.proofs.Order.{Before, higher, fewer, first, ranks}
 use Rattle.rule.proofs.First.{best-first, best-some}
-use Rattle.theorems.proofs.Answers.{score-is, search_refused, found-is, found_not_refused}
+use Rattle.theorems.proofs.Answers.{refusal_is, refuses_by, answers_by, ok_not_err}
 use Rattle.theorems.proofs.Deciding.{accepted-read}
 use Rattle.theorems.proofs.Completing.{completion_completes, completes_completion}
 use Rattle.requesting.proofs.Requests.{search_answered}
 use Rattle.theorems.proofs.Demanded3.{legal_request}
 use Rattle.requesting.proofs.Requests.{length-fits}
-use Rattle.search.specs.declared.answer.SearchAnswer.{SearchAnswer}
-use Rattle.search.specs.declared.answer.SearchAnswer.TheVariants.{Found}
+use Rattle.std.specs.Prelude.{Result, Ok}
+use Rattle.terms.specs.declared.refusal.Reason.TheVariants as reason
+use Rattle.terms.specs.declared.refusal.Refusal.{Refusal}
+use Rattle.terms.specs.Numbers.{reason_number}
+use Rattle.search.specs.declared.answer.Finding.{Finding}
 use Rattle.search.specs.Answer.{search_of}
 use Rattle.theorems.specs.Plans.{FullPlan, Candidate}
 use Rattle.theorems.specs.Reasons.{Accepted}
@@ -95,7 +98,7 @@ module _ (s p : List ℕ) (budget percent : ℕ) where
   none-holds e held =
       record {
         answers = inr refl;
-        finds = λ f q. absurd (found_not_refused (sym q));
+        finds = λ f q. absurd (ok_not_err (sym q));
         refuses = (
           λ q c k. let r = candidate_test k in best-some (table_of s) budget percent p c r.0 r.1 e,
           λ n. refl,
@@ -115,29 +118,31 @@ module _ (s p : List ℕ) (budget percent : ℕ) where
       }
 
   -- what is demanded where there is one
-  some_holds : (b : List ℕ) → best_plan (table_of s) budget percent p ≡ some b → (v : ℕ) (held : List ℕ) → SearchHolds s p budget percent held (Found (record { score = score (table_of s) b; visits = v })) b
+  some_holds : (b : List ℕ) → best_plan (table_of s) budget percent p ≡ some b → (v : ℕ) (held : List ℕ) → SearchHolds s p budget percent held (Ok (record { score = score (table_of s) b; visits = v })) b
   some_holds b e v held =
       let best = best-candidate b e in
       record {
         answers = inl (_, refl);
         finds = λ f q. (best, cc);
-        refuses = (λ q. absurd (found_not_refused q), λ n. absurd (n b best.candidate));
-        untouched = λ q. absurd (found_not_refused q);
+        refuses = (λ q. absurd (ok_not_err q), λ n. absurd (n b best.candidate));
+        untouched = λ q. absurd (ok_not_err q);
       }
 
   -- the search's answer and buffer, by whether there is one
-  search_holds : (held plan : List ℕ) (answer : SearchAnswer) → search_of answer plan ≡ searching (table_of s) budget percent p → plan ≡ written (λ a. a.plan) (searching (table_of s) budget percent p) held → SearchHolds s p budget percent held answer plan
-  unfolding searching written
+  search_holds : (held plan : List ℕ) (answer : Result Finding Refusal) → search_of answer plan ≡ searching (table_of s) budget percent p → plan ≡ written (λ a. a.plan) (searching (table_of s) budget percent p) held → SearchHolds s p budget percent held answer plan
+  unfolding searching written reason_number
   search_holds held plan answer e b = go (best_plan (table_of s) budget percent p) refl
     where
       go : (c : Option (List ℕ)) → best_plan (table_of s) budget percent p ≡ c → SearchHolds s p budget percent held answer plan
       go none q =
-          let is = search_refused plan answer (rw (q, searching) at e) in
+          let is = refusal_is reason.NoCandidate (refuses_by _ answer (rw (q, searching) at e)) in
           let same : plan ≡ held = rw (q, searching) at b in
           rw (is, same) (none-holds q held)
       go (some c) q =
-          let is = found-is plan answer (rw (q, searching) at e) in
-          rw (is.0, is.1) (some_holds c q _ held)
+          let is = answers_by _ answer (rw (q, searching) at e) in
+          let found = ap {B = Finding} (λ (a : Searching). record { score = a.score; visits = a.visits }) is.2 in
+          let same = ap (λ (a : Searching). a.plan) is.2 in
+          rw (is.1, found, same) (some_holds c q _ held)
 
 -- ---------------------------------------------------------------------------
 -- The score
@@ -180,7 +185,9 @@ pub demand_2 : Demand2
 unfolding Demand2 search_buffer
 demand_2 s read = (
   counted s,
-  λ p answer full e. score-is answer (e ∙ scored s p read full ∙ ap answered (counted s p)),
+  λ p answer full e.
+      let is = answers_by _ answer (e ∙ scored s p read full ∙ ap answered (counted s p)) in
+      is.1 ∙ ap Ok is.2,
   λ p budget percent held plan answer legal kits h fits e b.
       let is = search_answered s p (length held) percent budget _ (legal_request s p read legal (length held) fits budget percent kits h) in
       search_holds s p budget percent held plan answer (e ∙ is) (b ∙ rw is refl),

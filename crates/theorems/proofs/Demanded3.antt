@@ -15,25 +15,23 @@ use Rattle.diagram.specs.Table.{table_of}
 use Rattle.diagram.specs.Score.{score}
 use Rattle.diagram.specs.Plans.{completions, open_taken, is_open, upper_bound, derivative, derivatives, none_of, passing, forced, forced_plan, count_of, forced_count}
 use Rattle.diagram.specs.Checks.{plan_mark_fault}
-use Rattle.diagram.specs.Services.{refused, answered, written, reading, Sweeping, Filtering, sweep_outcome, filtering, filter_outcome, filter_buffer}
+use Rattle.diagram.specs.Services.{answered, written, reading, Sweeping, Filtering, sweep_outcome, filtering, filter_outcome, filter_buffer}
 use Rattle.terms.specs.declared.refusal.Refusal.{Refusal}
 use Rattle.diagram.proofs.Every.{both, and_true_both, both_ways}
 use Rattle.diagram.proofs.Places.{sequence-length, sequence-at, no_place}
 use Rattle.diagram.proofs.Checked.{Passed, read_passed}
 use Rattle.diagram.proofs.Rising.{drop-le-bound}
 use Rattle.reading.proofs.Accepted.{passed_formed, passed_monotone}
-use Rattle.sweep.specs.declared.answer.SweepAnswer.{SweepAnswer}
-use Rattle.sweep.specs.declared.answer.SweepAnswer.TheVariants as sweep
-use Rattle.filtering.specs.declared.answer.FilterAnswer.{FilterAnswer}
-use Rattle.filtering.specs.declared.answer.FilterAnswer.TheVariants as filter
+use Rattle.std.specs.Prelude.{Result, Ok}
+use Rattle.terms.specs.declared.refusal.Reason.TheVariants as reason
+use Rattle.terms.specs.Numbers.{reason_number}
 use Rattle.filtering.specs.Answer.{filter_of}
-use Rattle.sweep.specs.Answer.{sweep_of}
 use Rattle.theorems.specs.Plans.{LegalMarking, Open, NonePasses, NoneLeaves}
 use Rattle.theorems.specs.Reasons.{Accepted}
 use Rattle.theorems.specs.Demand3.{refused_31, SweepHolds, FilterHolds, Demand3}
 use Rattle.requesting.specs.Request.{request_outcome}
 use Rattle.requesting.proofs.Requests.{request_accepted, sweep_answered, filter-answered}
-use Rattle.theorems.proofs.Answers.{bound-is, filter-refused, forced-is, forced_not_refused}
+use Rattle.theorems.proofs.Answers.{refusal_is, refuses_by, answers_by, ok_not_err}
 use Rattle.theorems.proofs.Deciding.{accepted-read}
 use Rattle.theorems.proofs.Completing.{open_test, test_open, closed_test, no_way_passes_lem, no_way_leaves}
 
@@ -79,7 +77,7 @@ module _ (s p : List ℕ) where
   drop_other i l n = drop_at i l ∙ rw (closed_test p i l n) refl
 
   -- what is demanded of the top and the drops
-  sweep_holds : Passed s → SweepHolds s p (sweep.Bound (upper_bound (table_of s) p)) (derivatives (table_of s) p)
+  sweep_holds : Passed s → SweepHolds s p (Ok (upper_bound (table_of s) p)) (derivatives (table_of s) p)
   unfolding upper_bound derivatives
   sweep_holds h =
       record {
@@ -170,31 +168,33 @@ module _ (s p : List ℕ) (percent : ℕ) where
       }
 
   -- where some way passes
-  forces_holds : (NonePasses s p percent → ⊥) → (held : List ℕ) → FilterHolds s p percent held (filter.Forced (forced_count (table_of s) percent p)) marks
+  forces_holds : (NonePasses s p percent → ⊥) → (held : List ℕ) → FilterHolds s p percent held (Ok (forced_count (table_of s) percent p)) marks
   unfolding forced_plan
   forces_holds some held =
       record {
         size = sequence-length _ 0 (length p);
-        refuses = (λ e. absurd (forced_not_refused e), λ n. absurd (some n));
-        untouched = λ e. absurd (forced_not_refused e);
+        refuses = (λ e. absurd (ok_not_err e), λ n. absurd (some n));
+        untouched = λ e. absurd (ok_not_err e);
         takes = λ f. takes-line;
         keeps = λ f. keeps_line;
-        counts = λ f. ap filter.Forced counts-lines;
+        counts = λ f. ap Ok counts-lines;
       }
 
   -- the filter's answer and buffer, by whether any way passes
-  filter-holds : (held plan : List ℕ) (answer : FilterAnswer) → length held ≡ length p → filter_of answer plan ≡ filtering (table_of s) percent p → plan ≡ written (λ a. a.plan) (filtering (table_of s) percent p) held → FilterHolds s p percent held answer plan
-  unfolding filtering written
+  filter-holds : (held plan : List ℕ) (answer : Result ℕ Refusal) → length held ≡ length p → filter_of answer plan ≡ filtering (table_of s) percent p → plan ≡ written (λ a. a.plan) (filtering (table_of s) percent p) held → FilterHolds s p percent held answer plan
+  unfolding filtering written reason_number
   filter-holds held plan answer fits e b = go (none_of (passing (table_of s) percent) (completions p)) refl
     where
       go : (c : Bool) → none_of (passing (table_of s) percent) (completions p) ≡ c → FilterHolds s p percent held answer plan
       go true q =
-          let is = filter-refused plan answer (rw q at e) in
+          let is = refusal_is reason.BelowPercentage (refuses_by _ answer (rw q at e)) in
           let same : plan ≡ held = rw q at b in
           rw (is, same) (refuses-holds ((no_way_passes_lem s percent p).0 q) held fits)
       go false q =
-          let is = forced-is plan answer (rw q at e) in
-          rw (is.0, is.1) (forces_holds (λ n. false≢true (sym q ∙ (no_way_passes_lem s percent p).1 n)) held)
+          let is = answers_by _ answer (rw q at e) in
+          let count = ap (λ (a : Filtering). a.forced) is.2 in
+          let same = ap (λ (a : Filtering). a.plan) is.2 in
+          rw (is.1, count, same) (forces_holds (λ n. false≢true (sym q ∙ (no_way_passes_lem s percent p).1 n)) held)
 
 -- ---------------------------------------------------------------------------
 -- Both
@@ -204,8 +204,10 @@ pub demand_3 : Demand3
 unfolding Demand3 filter_buffer
 demand_3 s p read legal = (
   λ held drops answer fits e b.
-      let is = bound-is drops answer (e ∙ sweep_answers s p read legal (length held) fits) in
-      rw (is.0, is.1) (sweep_holds s p (read_passed s _ (accepted-read s read))),
+      let is = answers_by _ answer (e ∙ sweep_answers s p read legal (length held) fits) in
+      let top = ap (λ (a : Sweeping). a.upper_bound) is.2 in
+      let same = ap (λ (a : Sweeping). a.derivatives) is.2 in
+      rw (is.1, top, same) (sweep_holds s p (read_passed s _ (accepted-read s read))),
   λ percent held plan answer h fits e b.
       let is = filter-answers s p read legal (length held) fits percent h in
       filter-holds s p percent held plan answer fits (e ∙ is) (b ∙ rw is refl),

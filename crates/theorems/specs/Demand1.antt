@@ -1,45 +1,41 @@
 -- Demand 1 of the briefing, in its words and with its quantifiers written out. It speaks of what the five services return and write, of what the program
 -- prints, and of the rows of document 01's table "Turned away" with those of paper 3; nothing in it is about how a file is gone through.
-use Rattle.std.specs.Prelude.{ℕ, ◌+◌, ◌*◌, ◌≡◌, List, length, take, drop, replicate}
+use Rattle.std.specs.Prelude.{ℕ, ◌+◌, ◌*◌, ◌≡◌, List, Result, Ok, Err, length, take, drop, replicate}
 use Rattle.diagram.specs.Words.{word_at, field_p, field_q, field_r}
 use Rattle.diagram.specs.Table.{table_of, variable_count, record_count, choice_count, scale}
 use Rattle.diagram.specs.Services.{answered, Searching, read_outcome, score_outcome, sweep_outcome, sweep_buffer, filter_outcome, filter_buffer, search_outcome, search_buffer}
 use Rattle.diagram.specs.Printout.{refusal_text, plan_text, printout}
 use Rattle.terms.specs.declared.refusal.Refusal.{Refusal}
-use Rattle.reading.specs.declared.answer.ReadAnswer.{ReadAnswer}
-use Rattle.reading.specs.declared.answer.ReadAnswer.TheVariants as read_answer
+use Rattle.terms.specs.Numbers.{reason_number}
+use Rattle.reading.specs.declared.answer.Summary.{Summary}
 use Rattle.reading.specs.Answer as reading
-use Rattle.scoring.specs.declared.answer.ScoreAnswer.{ScoreAnswer}
-use Rattle.scoring.specs.declared.answer.ScoreAnswer.TheVariants as score-answer
 use Rattle.scoring.specs.Answer as scoring
-use Rattle.sweep.specs.declared.answer.SweepAnswer.{SweepAnswer}
-use Rattle.sweep.specs.declared.answer.SweepAnswer.TheVariants as sweep-answer
-use Rattle.filtering.specs.declared.answer.FilterAnswer.{FilterAnswer}
-use Rattle.filtering.specs.declared.answer.FilterAnswer.TheVariants as filter-answer
 use Rattle.filtering.specs.Answer.{filter_of}
 use Rattle.sweep.specs.Answer.{sweep_of}
 use Rattle.search.specs.declared.answer.Finding.{Finding}
-use Rattle.search.specs.declared.answer.SearchAnswer.{SearchAnswer}
-use Rattle.search.specs.declared.answer.SearchAnswer.TheVariants as search-answer
 use Rattle.search.specs.Answer.{search_of}
 use Rattle.theorems.specs.Reasons.{Request, Reason, FirstReason, NoReason, WholeTable, file_reasons, score_reasons, sweep_reasons, filter_reasons, search_reasons, program_reasons}
 
 -- A request is "turned away with a number and a place from document 01", and "the first reason in that paper's order is the one returned"; or there is no
 -- reason, and it is served
-pub data Judged (q : Request) (reasons : List Reason) {Answer : Type 0} (refuse : Refusal → Answer) (Served : Answer → Type 0) (answer : Answer) : Type 0 where
-  refuses : (number place : ℕ) → FirstReason q reasons number place → answer ≡ refuse (record { number = number; place = place }) → Judged q reasons refuse Served answer
-  serves : NoReason q reasons → Served answer → Judged q reasons refuse Served answer
+pub data Judged (q : Request) (reasons : List Reason) {Answer : Type 0} (Refused : (number place : ℕ) → Answer → Type 0) (Served : Answer → Type 0) (answer : Answer) : Type 0 where
+  refuses : (number place : ℕ) → FirstReason q reasons number place → Refused number place answer → Judged q reasons Refused Served answer
+  serves : NoReason q reasons → Served answer → Judged q reasons Refused Served answer
+
+-- A service turns a request away with a number and a place: the number is that of the refusal's reason
+abbrev pub Refuses : {Value : Type 0} → (number place : ℕ) → Result Value Refusal → Type 0
+Refuses number place answer = (r : Refusal) × (answer ≡ Err r) × (reason_number r.reason ≡ number) × (r.place ≡ place)
 
 -- "a turned-away request leaves the plan and the drops as they were": the buffer that is written. The plan handed in is lent to be read alone.
-abbrev pub LeavesBuffer : {Answer : Type 0} → (refuse : Refusal → Answer) → (answer : Answer) → (held after : List ℕ) → Type 0
-LeavesBuffer refuse answer held after = (r : Refusal) → answer ≡ refuse r → after ≡ held
+abbrev pub LeavesBuffer : {Value : Type 0} → Result Value Refusal → (held after : List ℕ) → Type 0
+LeavesBuffer answer held after = (r : Refusal) → answer ≡ Err r → after ≡ held
 
 -- A file that "is read to its last word", and V, N, the number of choices and B answered
-abbrev pub IsRead : (file : List ℕ) → ReadAnswer → Type 0
+abbrev pub IsRead : (file : List ℕ) → Result Summary Refusal → Type 0
 IsRead file answer =
     WholeTable file
     × (answer
-    ≡ read_answer.Table
+    ≡ Ok
     (record {
       variables = variable_count file;
       records = record_count file;
@@ -51,30 +47,30 @@ IsRead file answer =
 -- demand 2's and 3's.
 unfoldable pub Services : Request → Type 0
 Services q =
-    ((answer : ReadAnswer) →
+    ((answer : Result Summary Refusal) →
     reading.outcome_of answer ≡ read_outcome q.file →
-    Judged q file_reasons read_answer.Refused (IsRead q.file) answer)
-    × ((answer : ScoreAnswer) →
+    Judged q file_reasons Refuses (IsRead q.file) answer)
+    × ((answer : Result ℕ Refusal) →
     scoring.outcome_of answer ≡ score_outcome q.file q.plan →
-    Judged q score_reasons score-answer.Refused (λ a. (x : ℕ) × (a ≡ score-answer.Score x)) answer)
-    × ((held drops : List ℕ) (answer : SweepAnswer) →
+    Judged q score_reasons Refuses (λ a. (x : ℕ) × (a ≡ Ok x)) answer)
+    × ((held drops : List ℕ) (answer : Result ℕ Refusal) →
     length held ≡ q.size →
     sweep_of answer drops ≡ sweep_outcome q.file q.plan (length held) →
     drops ≡ sweep_buffer q.file q.plan held →
-    Judged q sweep_reasons sweep-answer.Refused (λ a. (x : ℕ) × (a ≡ sweep-answer.Bound x)) answer
-    × LeavesBuffer sweep-answer.Refused answer held drops)
-    × ((held written : List ℕ) (answer : FilterAnswer) →
+    Judged q sweep_reasons Refuses (λ a. (x : ℕ) × (a ≡ Ok x)) answer
+    × LeavesBuffer answer held drops)
+    × ((held written : List ℕ) (answer : Result ℕ Refusal) →
     length held ≡ q.size →
     filter_of answer written ≡ filter_outcome q.file q.plan q.percent (length held) →
     written ≡ filter_buffer q.file q.plan q.percent held →
-    Judged q filter_reasons filter-answer.Refused (λ a. (n : ℕ) × (a ≡ filter-answer.Forced n)) answer
-    × LeavesBuffer filter-answer.Refused answer held written)
-    × ((held written : List ℕ) (answer : SearchAnswer) →
+    Judged q filter_reasons Refuses (λ a. (n : ℕ) × (a ≡ Ok n)) answer
+    × LeavesBuffer answer held written)
+    × ((held written : List ℕ) (answer : Result Finding Refusal) →
     length held ≡ q.size →
     search_of answer written ≡ search_outcome q.file q.plan q.budget q.percent (length held) →
     written ≡ search_buffer q.file q.plan q.budget q.percent held →
-    Judged q search_reasons search-answer.Refused (λ a. (f : Finding) × (a ≡ search-answer.Found f)) answer
-    × LeavesBuffer search-answer.Refused answer held written)
+    Judged q search_reasons Refuses (λ a. (f : Finding) × (a ≡ Ok f)) answer
+    × LeavesBuffer answer held written)
 
 -- The request that the program makes of the bytes that it can read: a job word with percent and kits, "P plus 64 times Q", and the table after it,
 -- searched "from the fully open plan"; "the program reads 1,329" bytes
@@ -97,6 +93,6 @@ Demand1 =
     × ((input text : List ℕ) →
     text ≡ printout input →
     Judged (job_of input) program_reasons
-    (λ r. refusal_text r.number r.place)
+    (λ number place a. a ≡ refusal_text number place)
     (λ a. (found : Searching) × Finds (job_of input) found × (a ≡ plan_text (table_of (job_of input).file) found))
     text)

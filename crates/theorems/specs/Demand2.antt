@@ -1,16 +1,14 @@
 -- Demand 2 of the briefing, in its words and with its quantifiers written out. It speaks of what `score` returns and of what `search` returns and writes;
 -- nothing in it is about a visit or a fold. Document 01 explains the words.
-use Rattle.std.specs.Prelude.{ℕ, ◌*◌, ◌≤◌, ◌<◌, ◌≡◌, cond, ◌⊎◌, ◌↔◌, List, map, length, get_or}
+use Rattle.std.specs.Prelude.{ℕ, ◌*◌, ◌≤◌, ◌<◌, ◌≡◌, cond, ◌⊎◌, ◌↔◌, List, Result, Ok, Err, map, length, get_or}
 use Rattle.diagram.specs.Table.{Root, table_of}
 use Rattle.diagram.specs.Score.{truth, settlings, weight, sum, score}
 use Rattle.diagram.specs.Plans.{cost}
 use Rattle.diagram.specs.Services.{score_outcome, search_outcome, search_buffer}
-use Rattle.scoring.specs.declared.answer.ScoreAnswer.{ScoreAnswer}
-use Rattle.scoring.specs.declared.answer.ScoreAnswer.TheVariants.{Score}
+use Rattle.terms.specs.declared.refusal.Refusal.{Refusal}
+use Rattle.terms.specs.declared.refusal.Reason.TheVariants as reason
 use Rattle.scoring.specs.Answer.{outcome_of}
 use Rattle.search.specs.declared.answer.Finding.{Finding}
-use Rattle.search.specs.declared.answer.SearchAnswer.{SearchAnswer}
-use Rattle.search.specs.declared.answer.SearchAnswer.TheVariants.{Found, Refused}
 use Rattle.search.specs.Answer.{search_of}
 use Rattle.theorems.specs.Plans.{LegalMarking, FullPlan, Candidate, NoCandidate}
 use Rattle.theorems.specs.Reasons.{Accepted}
@@ -52,15 +50,15 @@ pub record FirstCandidate (file plan : List ℕ) (budget percent : ℕ) (way : L
   pub first : (other : List ℕ) → Candidate file plan budget percent other → (other ≡ way) ⊎ RanksBefore file way other
 
 -- The answer 32
-abbrev pub refused_32 : SearchAnswer
-refused_32 = Refused (record { number = 32; place = 0 })
+abbrev pub refused_32 : Result Finding Refusal
+refused_32 = Err (record { reason = reason.NoCandidate; place = 0 })
 
 -- What demand 2 says of the search's answer and of the plan that it writes over what the buffer held
-pub record SearchHolds (file plan : List ℕ) (budget percent : ℕ) (held : List ℕ) (answer : SearchAnswer) (written : List ℕ) : Type 0 where
+pub record SearchHolds (file plan : List ℕ) (budget percent : ℕ) (held : List ℕ) (answer : Result Finding Refusal) (written : List ℕ) : Type 0 where
   -- the search finds a plan or answers 32
-  pub answers : ((f : Finding) × (answer ≡ Found f)) ⊎ (answer ≡ refused_32)
+  pub answers : ((f : Finding) × (answer ≡ Ok f)) ⊎ (answer ≡ refused_32)
   -- "The plan returned is the first", and the score returned is its score, "with no rounding"
-  pub finds : (f : Finding) → answer ≡ Found f → FirstCandidate file plan budget percent written × (f.score ≡ score (table_of file) written)
+  pub finds : (f : Finding) → answer ≡ Ok f → FirstCandidate file plan budget percent written × (f.score ≡ score (table_of file) written)
   -- "32 is returned if there is no such plan, and only then"
   pub refuses : (answer ≡ refused_32) ↔ NoCandidate file plan budget percent
   -- and, of demand 1, "a turned-away request leaves the plan and the drops as they were"
@@ -74,11 +72,11 @@ unfoldable pub Demand2 : Type 0
 Demand2 =
     (file : List ℕ) → Accepted file →
     ((plan : List ℕ) → score (table_of file) plan ≡ weighted_count file plan)
-    × ((plan : List ℕ) (answer : ScoreAnswer) →
+    × ((plan : List ℕ) (answer : Result ℕ Refusal) →
     FullPlan file plan →
     outcome_of answer ≡ score_outcome file plan →
-    answer ≡ Score (weighted_count file plan))
-    × ((plan : List ℕ) (budget percent : ℕ) (held written : List ℕ) (answer : SearchAnswer) →
+    answer ≡ Ok (weighted_count file plan))
+    × ((plan : List ℕ) (budget percent : ℕ) (held written : List ℕ) (answer : Result Finding Refusal) →
     LegalMarking file plan →
     budget ≤ 10020 →
     percent ≤ 100 →

@@ -7,13 +7,12 @@ use native.Mathlib.Omega.{arith}
 use mathlib.Core.Path.{◌≡◌, refl, ap, sym, ◌∙◌}
 use mathlib.Core.Bool.{Bool, true, false, cond, false≢true}
 use mathlib.Core.Logic.{by_cases}
-use mathlib.Core.List.{List, [], ◌∷◌, ◌++◌, append-nil}
+use mathlib.Core.List.{List, [], ◌∷◌, ◌++◌}
 use lib.ListN.{length, get_or, set, take, drop, replicate, length-set, get_or-replicate, get_or-eq_default}
 use lib.Seq.{take-suc, get_or-drop, get_or-set_same, get_or-set_other, ext_get_or}
 use borrow.Author.Count.{below_more}
 use borrow.Author.Tests.{ne_eqb}
-use Rattle.arrays.specs.Arrays.{over}
-use Rattle.diagram.specs.Table.{Variable, choice, chance, sequence, variable_of, is_choice, choice_count}
+use Rattle.diagram.specs.Table.{Variable, choice, chance, variable_of, is_choice, choice_count}
 use Rattle.diagram.specs.Plans.{open_taken}
 use Rattle.diagram.proofs.Places.{sequence-length, sequence-at}
 use Rattle.decoding.specs.Decoding.{variables_in}
@@ -193,7 +192,35 @@ module _ (vs : List Variable) (p : List ℕ) (long : length p ≡ choice_count v
       sequence-same (λ (x : ℕ). taken_mark (get_or ms x 0)) (mark_of vs (open_taken p)) 0 0 64
       (λ x l. rw (zero-add x, e, sequence-at (mark_of vs p) 0 64 x 0 l, zero-add x) (taken_at x))
 
--- all marks are written
-pub taken-all : (ms : List ℕ) {x : ℕ} {cells : List ℕ} → cells ≡ over (sequence (λ (x : ℕ). taken_mark (get_or ms x 0)) 0 x) (replicate 64 1) → x ≡ 64 → cells ≡ taken_marks ms
-unfolding taken_marks over
-taken-all ms e all = e ∙ rw (all, sequence-length, append-nil) refl
+-- the open lines of the marks before index i are taken, and the others are as they were
+pub record TakenTo (ms : List ℕ) (i : ℕ) (cells : List ℕ) : Type 0 where
+  pub size : length cells ≡ length ms
+  pub done : (x : ℕ) → x < i → get_or cells x 0 ≡ taken_mark (get_or ms x 0)
+  pub rest : (x : ℕ) → i ≤ x → get_or cells x 0 ≡ get_or ms x 0
+
+module _ {ms : List ℕ} {i : ℕ} {cells : List ℕ} (t : TakenTo ms i cells) where
+  taken_next : (m : ℕ) → i < length ms → m ≡ taken_mark (get_or cells i 0) → TakenTo ms (i + 1) (set cells i m)
+  taken_next m h e =
+      let size = t.size in
+      record {
+        size = simp length-set size;
+        done = below_more _ i
+            (λ x l. get_or-set_other cells i x m 0 (omega arith) ∙ t.done x l)
+            (get_or-set_same cells i m 0 (omega arith) ∙ rw (e, t.rest i (omega arith)) refl);
+        rest = λ x l. get_or-set_other cells i x m 0 (omega arith) ∙ t.rest x (omega arith);
+      }
+
+  pub taken_line : i < length ms → get_or cells i 0 ≡ 0 → TakenTo ms (i + 1) (set cells i 1)
+  unfolding taken_mark
+  taken_line h e = taken_next 1 h (rw e refl)
+
+  pub taken_other : i < length ms → (get_or cells i 0 ≡ 0 → ⊥) → TakenTo ms (i + 1) (set cells i (get_or cells i 0))
+  unfolding taken_mark
+  taken_other h some = taken_next (get_or cells i 0) h (rw (ne_eqb (get_or cells i 0) 0 some) refl)
+
+  pub taken_end : length ms ≡ 64 → 64 ≤ i → cells ≡ taken_marks ms
+  unfolding taken_marks
+  taken_end long all =
+      let mark : ℕ → ℕ = λ x. taken_mark (get_or ms x 0) in
+      ext_get_or 0 cells _ (t.size ∙ long ∙ sym (sequence-length mark 0 64))
+      (λ x l. rw (sequence-at mark 0 64 x 0 (omega (arith, t.size)), zero-add) (t.done x (omega (arith, t.size))))

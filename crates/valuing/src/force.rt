@@ -1,9 +1,9 @@
 // The marks by position, and the arcs that are in force under them.
-ghost use Rattle.std.specs.Prelude.{◌≡◌, ℕ, ◌≤◌, ◌<◌, length, get_or};
+ghost use Rattle.std.specs.Prelude.{◌≡◌, ℕ, ◌≤◌, ◌<◌, cond, eqb, length, get_or};
 ghost use Rattle.diagram.specs.Table.{choice_count};
 ghost use Rattle.decoding.specs.Decoding.{variables_in};
 ghost use Rattle.valuing.specs.Passes as passes;
-ghost use Rattle.valuing.specs.Passes.{taken_mark, taken_marks, high_in_force, low_in_force, arcs_in_force};
+ghost use Rattle.valuing.specs.Passes.{taken_marks, arcs_in_force};
 
 use decoding::{is_choice_at, position_of};
 use ordering::{HIGH_ARCS, LOW_ARCS};
@@ -17,13 +17,11 @@ pub fn marks_by_position(words: &[u32; 64], v: u8, plan: &[u8]) -> [u8; 64]
 {
     let mut marks = [Plan::CHANCE; 64];
     let mut choice = 0;
-    let mut p = 0;
-    while p < v {
+    for p in 0..v {
         if is_choice_at(words, Position::new(p)) {
-            marks[p as usize] = plan[choice];
+            marks[usize::from(p)] = plan[choice];
             choice += 1;
         }
-        p += 1;
     }
     marks
 }
@@ -32,25 +30,13 @@ pub fn marks_by_position(words: &[u32; 64], v: u8, plan: &[u8]) -> [u8; 64]
 pub fn take_open(marks: &[u8; 64]) -> [u8; 64]
     ensures { result ≡ taken_marks marks.now }
 {
-    let mut taken = [Plan::TAKEN; 64];
-    let mut x = 0;
-    while x < 64 {
-        taken[x] = taken_mark(marks[x]);
-        x += 1;
+    let mut taken = *marks;
+    for mark in &mut taken {
+        if *mark == Plan::OPEN {
+            *mark = Plan::TAKEN;
+        }
     }
     taken
-}
-
-// A mark, with an open line taken.
-#[tactic(auto, unfolding(crate::specs::Passes::taken_mark))]
-fn taken_mark(mark: u8) -> u8
-    ensures { result ≡ taken_mark mark }
-{
-    if mark == Plan::OPEN {
-        Plan::TAKEN
-    } else {
-        mark
-    }
 }
 
 // The weights of the arcs in force of the first n records, by the arcs' numbers: 0 for the hi arc of a line that is left, and for the
@@ -62,15 +48,13 @@ pub fn in_force(
     arcs: &[u64; 544],
     weights: &mut [u64; 544],
 )
-    requires { (n ≤ 254) × ((k : ℕ) → get_or positions.now k 0 < 64) × (length weights.old ≡ 544) }
+    requires { (n ≤ 254) × ((k : ℕ) → get_or positions.now k 0 < 64) }
     ensures { weights.new ≡ arcs_in_force positions.now marks.now arcs.now n weights.old }
 {
-    let mut k = 0;
-    while k < n {
+    for k in 0..n {
         let mark = mark_at(marks, position_of(positions, Node::of_record(k)));
-        weights[k + HIGH_ARCS] = high_weight(mark, arcs[k + HIGH_ARCS]);
-        weights[k + LOW_ARCS] = low_weight(mark, arcs[k + LOW_ARCS]);
-        k += 1;
+        weights[k + HIGH_ARCS] = weight_under(mark, Plan::LEFT, arcs[k + HIGH_ARCS]);
+        weights[k + LOW_ARCS] = weight_under(mark, Plan::TAKEN, arcs[k + LOW_ARCS]);
     }
 }
 
@@ -79,22 +63,12 @@ pub fn mark_at(marks: &[u8; 64], at: Position) -> u8
     requires { at.0 < 64 }
     ensures { result ≡ get_or marks.now at.0 0 }
 {
-    let p = at.number();
-    marks[p]
+    marks[at.number()]
 }
 
-// The weight of a hi arc under a mark: 0 where the line is left.
-#[tactic(auto, unfolding(crate::specs::Passes::high_in_force))]
-fn high_weight(mark: u8, arc: u64) -> u64
-    ensures { result ≡ high_in_force mark arc }
+// The weight of an arc under a mark: 0 where the mark is the one that closes it.
+fn weight_under(mark: u8, closing: u8, arc: u64) -> u64
+    ensures { result ≡ cond (eqb mark closing) 0 arc }
 {
-    if mark == Plan::LEFT { 0 } else { arc }
-}
-
-// The weight of a lo arc under a mark: 0 where the line is taken.
-#[tactic(auto, unfolding(crate::specs::Passes::low_in_force))]
-fn low_weight(mark: u8, arc: u64) -> u64
-    ensures { result ≡ low_in_force mark arc }
-{
-    if mark == Plan::TAKEN { 0 } else { arc }
+    if mark == closing { 0 } else { arc }
 }

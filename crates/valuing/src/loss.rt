@@ -13,11 +13,9 @@ pub fn losses(n: usize, low: &[u8; 256], arcs: &[u64; 544], values: &[u64; 256])
     requires { (n ≤ 254) × ((k : ℕ) → k < n → LossFits low.now arcs.now values.now (k + 2)) }
     ensures { result ≡ losses_of low.now arcs.now values.now n }
 {
-    let mut losses = [0u64; 256];
-    let mut k = 0;
-    while k < n {
+    let mut losses = [0; 256];
+    for k in 0..n {
         losses[k + 2] = loss_of(low, arcs, values, Node::of_record(k));
-        k += 1;
     }
     losses
 }

@@ -1,5 +1,5 @@
 // The pass up the records: the value of every node.
-ghost use Rattle.std.specs.Prelude.{◌≡◌, ◌≤◌, ◌<◌, ◌^◌, length, get_or};
+ghost use Rattle.std.specs.Prelude.{◌≡◌, ◌≤◌, ◌<◌, ◌^◌, get_or};
 ghost use Rattle.arrays.specs.Arrays.{over};
 ghost use Rattle.valuing.specs.Passes.{arcs_of, Fits, pass_up, node_value};
 
@@ -17,17 +17,13 @@ pub fn pass_up<'a>(
     weights: &[u64; 544],
     values: &mut [u64; 256],
 )
-    requires fits { (n ≤ 254) × Fits (arcs_of high.now low.now weights.now) n }
-    requires sizes { length values.old ≡ 256 }
+    requires { (n ≤ 254) × Fits (arcs_of high.now low.now weights.now) n }
     ensures { values.new ≡ over (pass_up (arcs_of high.now low.now weights.now) n) values.old }
 {
     values[0] = 0;
     values[1] = 1;
-    let mut k = 0;
-    while k < n {
-        let x = node_value(high, low, weights, values, Node::of_record(k));
-        values[k + 2] = x;
-        k += 1;
+    for k in 0..n {
+        values[k + 2] = node_value(high, low, weights, values, Node::of_record(k));
     }
 }
 
@@ -52,6 +48,5 @@ fn node_value(
 pub fn value_of(values: &[u64; 256], node: Node) -> u64
     ensures { result ≡ get_or values.now node.0 0 }
 {
-    let n = node.number();
-    values[n]
+    values[node.number()]
 }

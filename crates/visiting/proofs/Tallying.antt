@@ -1,5 +1,5 @@
 -- What is held in the terms of the visit rule: its tests, the ranking of two plans, and the plan that is held after a finished plan.
--- Assumes that the numbers held are those of the best plan held (`Holds`), and that `least` is the least score that passes.
+-- Assumes that what is held is the best plan held (`Holds`), and that `least` is the least score that passes.
 use Prim.Native.Nat.{ℕ, ◌+◌, ◌-◌, ◌≤◌, ◌<◌}
 use native.Mathlib.Nat.{eq-or-lt_of_le}
 use native.Mathlib.Omega.{arith}
@@ -8,9 +8,8 @@ use mathlib.Core.Logic.{⊎_elim}
 use mathlib.Core.Bool.{Bool, true, false, cond, not, ◌&&◌, ◌||◌, or-true, or-false}
 use mathlib.Core.List.{List, [], ◌∷◌, ◌++◌}
 use mathlib.Core.Option.{Option, none, some, some-injective, some-ne-none}
-use lib.ListN.{length, get_or, set, length-set}
+use lib.ListN.{length}
 use lib.Dec.{eqb, leb, ltb}
-use lib.Seq.{get_or-set_same, get_or-set_other}
 use borrow.Author.Tests.{lt-ltb, le-ltb, le-leb, eq-eqb, ltb-true, leb-true, leb-false, eqb-true, eqb-false, not-false}
 use Rattle.diagram.specs.Table.{Table, choice_count}
 use Rattle.diagram.specs.Score.{score}
@@ -19,9 +18,11 @@ use Rattle.diagram.specs.Ranking.{takes_first, ranks_before, better}
 use Rattle.diagram.proofs.Every.{neither, both_ways}
 use Rattle.rule.specs.Rule.{terms, beaten, goes_back, worthwhile}
 use Rattle.rule.proofs.Instance.{full_taken}
+use Rattle.incumbent.specs.declared.Incumbent.{Incumbent}
 use Rattle.incumbent.specs.Ranks.{ranks_over}
+use Rattle.incumbent.specs.Held.{visit_added, plan_held, kept}
 use Rattle.incumbent.proofs.Keeping.{ranks_room}
-use Rattle.visiting.specs.State.{padded, Holding, Holds}
+use Rattle.visiting.specs.Visit.{padded, Holding, Holds}
 
 -- ---------------------------------------------------------------------------
 -- Tests over plain numbers
@@ -100,27 +101,27 @@ first-padded p q e = rw e (first-append p q _ e)
 -- ---------------------------------------------------------------------------
 -- The tests of a visit
 
-module _ {t : Table} {budget least : ℕ} {held : Option (List ℕ)} {best tally : List ℕ} (holds : Holds t budget least held best tally) (percent : ℕ) (passing : LeastPassing t percent least) where
+module _ {t : Table} {budget least : ℕ} {held : Option (List ℕ)} {h : Incumbent} (holds : Holds t budget least held h) (percent : ℕ) (passing : LeastPassing t percent least) where
   -- a bound does not pass or is beaten where it is less than the least that is worth a visit
-  least-is : (x : ℕ) → (not (leb least x) || beaten (terms t budget percent) held x) ≡ not (leb (get_or tally 0 0) x)
+  least-is : (x : ℕ) → (not (leb least x) || beaten (terms t budget percent) held x) ≡ not (leb (h.cutoff) x)
   unfolding terms beaten
   least-is x = go held refl
     where
-      go : (h : Option (List ℕ)) → held ≡ h → (not (leb least x) || beaten (terms t budget percent) h x) ≡ not (leb (get_or tally 0 0) x)
+      go : (o : Option (List ℕ)) → held ≡ o → (not (leb least x) || beaten (terms t budget percent) o x) ≡ not (leb (h.cutoff) x)
       go none e = rw ((holds.nothing e).0, or-false) refl
       go (some q) e =
           let q-held = holds.something q e in
           rw q-held.scored (less_too least x (score t q) q-held.passes)
 
   -- a visit goes back
-  pub back_is : (p : List ℕ) {room bound : ℕ} {r : Bool} → room ≡ budget + 1 - cost t p → bound ≡ upper_bound t p → r ≡ (eqb room 0 || not (leb (get_or tally 0 0) bound)) → goes_back (terms t budget percent) p held ≡ r
+  pub back_is : (p : List ℕ) {room bound : ℕ} {r : Bool} → room ≡ budget + 1 - cost t p → bound ≡ upper_bound t p → r ≡ (eqb room 0 || not (leb (h.cutoff) bound)) → goes_back (terms t budget percent) p held ≡ r
   unfolding terms goes_back
   back_is p er eb e =
       rw (e, er, eb, no_room budget (cost t p), passing (upper_bound t p))
       (joint (ltb budget (cost t p)) _ _ (least-is (upper_bound t p)))
 
   -- a plan with a line left is visited
-  pub worth_is : (p : List ℕ) {x : ℕ} {r : Bool} → x ≡ upper_bound t p → r ≡ not (leb (get_or tally 0 0) x) → worthwhile (terms t budget percent) p held ≡ not r
+  pub worth_is : (p : List ℕ) {x : ℕ} {r : Bool} → x ≡ upper_bound t p → r ≡ not (leb (h.cutoff) x) → worthwhile (terms t budget percent) p held ≡ not r
   unfolding terms worthwhile
   worth_is p ex e =
       rw (e, ex, passing (upper_bound t p), ← least-is (upper_bound t p)) (none-holds (leb least (upper_bound t p)) _)
@@ -129,35 +130,33 @@ module _ {t : Table} {budget least : ℕ} {held : Option (List ℕ)} {best tally
 -- What is held
 
 -- a plan is held where its numbers are
-one-held : {t : Table} {budget least : ℕ} {p best tally : List ℕ} → Holding t budget least p best tally → Holds t budget least (some p) best tally
-one-held {t} {budget} {least} {p} {best} {tally} h =
+one-held : {t : Table} {budget least : ℕ} {p : List ℕ} {h : Incumbent} → Holding t budget least p h → Holds t budget least (some p) h
+one-held {t} {budget} {least} {p} {h} holding =
     record {
       nothing = λ e. absurd (some-ne-none p e);
-      something = λ q e. rw (← some-injective p q e) h;
+      something = λ q e. rw (← some-injective p q e) holding;
     }
 
 -- a visit more changes nothing of what is held
-pub counted-holds : {t : Table} {budget least : ℕ} {held : Option (List ℕ)} {best tally tally' : List ℕ} → Holds t budget least held best tally → length tally ≡ 3 → tally' ≡ set tally 2 (get_or tally 2 0 + 1) → Holds t budget least held best tally'
-counted-holds {t} {budget} {least} {held} {best} {tally} {tally'} holds size e =
-    let worth : get_or tally' 0 0 ≡ get_or tally 0 0 = rw e (get_or-set_other tally 2 0 _ 0 (omega arith)) in
-    let room : get_or tally' 1 0 ≡ get_or tally 1 0 = rw e (get_or-set_other tally 2 1 _ 0 (omega arith)) in
-    record {
-      nothing = λ n. (worth ∙ (holds.nothing n).0, room ∙ (holds.nothing n).1, (holds.nothing n).2);
+pub counted-holds : {t : Table} {budget least : ℕ} {held : Option (List ℕ)} {h h' : Incumbent} → Holds t budget least held h → h' ≡ visit_added h → Holds t budget least held h'
+counted-holds {h = h} holds e =
+    rw e (record {
+      nothing = holds.nothing;
       something = λ q s.
-          let h = holds.something q s in
+          let holding = holds.something q s in
           record {
-            size = h.size;
-            plan = h.plan;
-            scored = worth ∙ h.scored;
-            room = room ∙ h.room;
-            within = h.within;
-            passes = h.passes;
+            size = holding.size;
+            plan = holding.plan;
+            scored = holding.scored;
+            room = holding.room;
+            within = holding.within;
+            passes = holding.passes;
           };
-    }
+    })
 
 -- A finished plan
-module _ {t : Table} {budget least : ℕ} {held : Option (List ℕ)} {best tally : List ℕ} (holds : Holds t budget least held best tally) (size : length tally ≡ 3) (p : List ℕ) (room bound : ℕ) (marks : List ℕ) {best' tally' : List ℕ} (eb : best' ≡ cond (ranks_over bound room marks (get_or tally 0 0) (get_or tally 1 0) best) marks best) (et : tally' ≡ cond (ranks_over bound room marks (get_or tally 0 0) (get_or tally 1 0) best) (set (set tally 0 bound) 1 room) tally) where
-  module _ (long : length p ≡ choice_count t.variables) (few : choice_count t.variables ≤ 20) (full : open_count p ≡ 0) (em : marks ≡ padded p) (er : room ≡ budget + 1 - cost t p) (ex : bound ≡ upper_bound t p) (stays : (eqb room 0 || not (leb (get_or tally 0 0) bound)) ≡ false) where
+module _ {t : Table} {budget least : ℕ} {held : Option (List ℕ)} {h : Incumbent} (holds : Holds t budget least held h) (p : List ℕ) (room bound : ℕ) (marks : List ℕ) {h' : Incumbent} (after : h' ≡ kept bound room marks h) where
+  module _ (long : length p ≡ choice_count t.variables) (few : choice_count t.variables ≤ 20) (full : open_count p ≡ 0) (em : marks ≡ padded p) (er : room ≡ budget + 1 - cost t p) (ex : bound ≡ upper_bound t p) (stays : (eqb room 0 || not (leb h.cutoff bound)) ≡ false) where
     -- its bound is its score
     bound-score : bound ≡ score t p
     unfolding upper_bound
@@ -168,57 +167,57 @@ module _ {t : Table} {budget least : ℕ} {held : Option (List ℕ)} {best tally
     within-budget = omega (arith, er, eqb-false room 0 (neither (eqb room 0) stays).0)
 
     -- its bound is worth a visit
-    worth_visit : get_or tally 0 0 ≤ bound
-    worth_visit = leb-true (get_or tally 0 0) bound (not-false _ (neither (eqb room 0) stays).1)
+    worth_visit : h.cutoff ≤ bound
+    worth_visit = leb-true h.cutoff bound (not-false _ (neither (eqb room 0) stays).1)
 
     -- where it ranks first it is held
-    new_held : ranks_over bound room marks (get_or tally 0 0) (get_or tally 1 0) best ≡ true → least ≤ score t p → Holds t budget least (some p) best' tally'
-    new_held e h =
-        rw (eb, et, e)
+    new_held : ranks_over bound room marks h.cutoff h.room h.marks ≡ true → least ≤ score t p → Holds t budget least (some p) h'
+    new_held e passing =
+        rw (after, e)
         (one-held
         (record {
           size = long;
           plan = em;
-          scored = get_or-set_other (set tally 0 bound) 1 0 room 0 (omega arith) ∙ get_or-set_same tally 0 bound 0 (omega arith) ∙ bound-score;
-          room = get_or-set_same (set tally 0 bound) 1 room 0 (rw length-set (omega arith)) ∙ er;
+          scored = bound-score;
+          room = er;
           within = within-budget;
-          passes = h;
+          passes = passing;
         }))
 
     -- where it does not, what was held is held on
-    old_held : ranks_over bound room marks (get_or tally 0 0) (get_or tally 1 0) best ≡ false → Holds t budget least held best' tally'
-    old_held e = rw (eb, et, e) holds
+    old_held : ranks_over bound room marks h.cutoff h.room h.marks ≡ false → Holds t budget least held h'
+    old_held e = rw (after, e) holds
 
     -- where nothing is held it ranks first
-    first_ranks : held ≡ none → ranks_over bound room marks (get_or tally 0 0) (get_or tally 1 0) best ≡ true
+    first_ranks : held ≡ none → ranks_over bound room marks h.cutoff h.room h.marks ≡ true
     first_ranks e =
-        ranks_larger bound room marks _ _ best worth_visit
+        ranks_larger bound room marks _ _ h.marks worth_visit
         (omega (arith, er, within-budget, (holds.nothing e).1))
 
     -- the numbers held rank as the plans do
-    ranks_is : (q : List ℕ) → held ≡ some q → ranks_over bound room marks (get_or tally 0 0) (get_or tally 1 0) best ≡ ranks_before t p q
+    ranks_is : (q : List ℕ) → held ≡ some q → ranks_over bound room marks h.cutoff h.room h.marks ≡ ranks_before t p q
     unfolding ranks_over ranks_before
     ranks_is q e =
-        let h = holds.something q e in
-        rw (bound-score, er, em, h.scored, h.room, h.plan, more_room budget (cost t p) (cost t q) within-budget h.within, same-room budget (cost t p) (cost t q) within-budget h.within, first-padded p q (long ∙ sym h.size)) refl
+        let holding = holds.something q e in
+        rw (bound-score, er, em, holding.scored, holding.room, holding.plan, more_room budget (cost t p) (cost t q) within-budget holding.within, same-room budget (cost t p) (cost t q) within-budget holding.within, first-padded p q (long ∙ sym holding.size)) refl
 
     -- what is held then is the better of the two
-    pub kept-holds : Holds t budget least (better t held p) best' tally'
+    pub kept-holds : Holds t budget least (better t held p) h'
     unfolding better
     kept-holds = go held refl
       where
-        go : (h : Option (List ℕ)) → held ≡ h → Holds t budget least (better t h p) best' tally'
+        go : (o : Option (List ℕ)) → held ≡ o → Holds t budget least (better t o p) h'
         go none e = new_held (first_ranks e) (omega (arith, worth_visit, bound-score, (holds.nothing e).0))
         go (some q) e = beside (ranks_before t p q) refl
           where
-            beside : (r : Bool) → ranks_before t p q ≡ r → Holds t budget least (some (cond r p q)) best' tally'
+            beside : (r : Bool) → ranks_before t p q ≡ r → Holds t budget least (some (cond r p q)) h'
             beside true f = new_held (ranks_is q e ∙ f) (omega (arith, worth_visit, bound-score, (holds.something q e).scored, (holds.something q e).passes))
             beside false f = rw (← e) (old_held (ranks_is q e ∙ f))
 
   -- a finished plan is no visit more
-  pub kept-visits : get_or tally' 2 0 ≡ get_or tally 2 0
-  kept-visits = rw et (go (ranks_over bound room marks (get_or tally 0 0) (get_or tally 1 0) best))
+  pub kept-visits : h'.visits ≡ h.visits
+  kept-visits = rw after (go (ranks_over bound room marks h.cutoff h.room h.marks))
     where
-      go : (r : Bool) → get_or (cond r (set (set tally 0 bound) 1 room) tally) 2 0 ≡ get_or tally 2 0
-      go true = get_or-set_other (set tally 0 bound) 1 2 room 0 (omega arith) ∙ get_or-set_other tally 0 2 bound 0 (omega arith)
+      go : (r : Bool) → (cond r (plan_held bound room marks h) h).visits ≡ h.visits
+      go true = refl
       go false = refl

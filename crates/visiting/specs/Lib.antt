@@ -1,2 +1,2 @@
 -- What a visit is handed and what it leaves.
-pub mod State
+pub mod Visit

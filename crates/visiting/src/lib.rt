@@ -3,4 +3,4 @@
 
 mod visits;
 
-pub use visits::visit;
+pub use visits::{State, visit};

@@ -9,7 +9,11 @@ use mathlib.Core.Logic.{⊎_elim}
 use mathlib.Core.List.{List, [], ◌∷◌}
 use lib.ListN.{length, get_or, set, drop, replicate, length-set, get_or-replicate}
 use lib.Seq.{drop-cons, get_or-set_same, get_or-set_other, ext_get_or}
-use borrow.Author.Tests.{eq-eqb, ne_eqb}
+use mathlib.Core.Bool.{true, false}
+use mathlib.Core.Logic.{by_cases}
+use native.Mathlib.Decide.{dec_lt}
+use lib.Dec.{eqb}
+use borrow.Author.Count.{below_more}
 use Rattle.diagram.specs.Words.{kind, field_q, field_r}
 use Rattle.diagram.specs.Table.{Variable, choice, chance, Record, Table, sequence, variable_of, record_at, scale_of}
 use Rattle.diagram.specs.Checks.{position_of}
@@ -30,13 +34,13 @@ use Rattle.weighing.proofs.Values.{gap-scale, shares-drop, shares_sum}
 -- A word's variable
 
 module _ (w : ℕ) where
-  pub word-choice : kind w ≡ 2 → variable_of w ≡ choice
+  pub word-choice : eqb (kind w) 2 ≡ true → variable_of w ≡ choice
   unfolding variable_of
-  word-choice e = simp (eq-eqb (kind w) 2 e)
+  word-choice e = simp e
 
-  pub word-chance : (kind w ≡ 2 → ⊥) → variable_of w ≡ chance (field_q w) (field_r w)
+  pub word-chance : eqb (kind w) 2 ≡ false → variable_of w ≡ chance (field_q w) (field_r w)
   unfolding variable_of
-  word-chance e = simp (ne_eqb (kind w) 2 e)
+  word-chance e = simp e
 
 -- ---------------------------------------------------------------------------
 -- An array by position, written from the last position on
@@ -67,6 +71,34 @@ module _ {f : ℕ → ℕ} where
       let long = sequence-length f 0 64 in
       ext_get_or 0 cells (sequence f 0 64) (omega arith)
       (λ i l. w.at i (omega arith) (omega arith) ∙ sym (sequence-at f 0 64 i 0 (omega arith) ∙ rw zero-add))
+
+-- the cells before position p are written, and the others hold a number
+pub record UpTo (f : ℕ → ℕ) (one p : ℕ) (cells : List ℕ) : Type 0 where
+  pub size : length cells ≡ 64
+  pub at : (x : ℕ) → x < p → get_or cells x 0 ≡ f x
+  pub past : (x : ℕ) → p ≤ x → x < 64 → get_or cells x 0 ≡ one
+
+module _ {f : ℕ → ℕ} {one : ℕ} where
+  pub up_start : UpTo f one 0 (replicate 64 one)
+  up_start = record { size = refl; at = λ x l. absurd (omega arith); past = λ x l m. get_or-replicate 64 x one 0 m }
+
+  pub up_next : {p : ℕ} {before : List ℕ} (x : ℕ) → UpTo f one p before → p < 64 → x ≡ f p → UpTo f one (p + 1) (set before p x)
+  up_next {p} {before} x w h y =
+      let size = w.size in
+      record {
+        size = simp length-set size;
+        at = below_more _ _
+            (λ i l. rw (get_or-set_other before p i x 0 (omega arith)) (w.at i l))
+            (rw (get_or-set_same before p x 0 (omega arith)) y);
+        past = λ i l m. rw (get_or-set_other before p i x 0 (omega arith)) (w.past i (omega arith) m);
+      }
+
+  pub up_end : {p : ℕ} {cells : List ℕ} → UpTo f one p cells → ((x : ℕ) → p ≤ x → f x ≡ one) → cells ≡ sequence f 0 64
+  up_end {p} {cells} w none =
+      let size = w.size in
+      let long = sequence-length f 0 64 in
+      ext_get_or 0 cells (sequence f 0 64) (omega arith)
+      (λ i l. by_cases (dec_lt i p) (λ b. w.at i b) (λ b. w.past i (omega arith) (omega arith) ∙ sym (none i (omega arith))) ∙ sym (sequence-at f 0 64 i 0 (omega arith) ∙ rw zero-add))
 
 -- ---------------------------------------------------------------------------
 -- The product of b from a position on

@@ -8,7 +8,7 @@ ghost use Rattle.weighing.specs.Weights as weights;
 ghost use Rattle.weighing.specs.Weights.{high_shares, low_shares, arc_weight, Weighable};
 
 use decoding::{child_of, position_of};
-use terms::{Node, Position, field_q, field_r, kind};
+use terms::{Kind, Node, Position, field_q, field_r, has_kind};
 
 // The product of b from each position on, of the first v variables. `lay_out` has an accepted table's words, whose product is at most
 // 2^56.
@@ -16,13 +16,9 @@ pub fn products(words: &[u32; 64], v: u8) -> [u64; 64]
     requires { (v ≤ 60) × BoundedShares (variables_in words.now v) × (scale_of (variables_in words.now v) ≤ 2 ^ 56) }
     ensures { result ≡ weights.products (variables_in words.now v) }
 {
-    let mut products = [1u64; 64];
-    let mut p = v;
-    while 0 < p {
-        p -= 1;
-        let w = words[p as usize];
-        let after = products[p as usize + 1];
-        products[p as usize] = after * scale_of(w);
+    let mut products = [1; 64];
+    for p in (0..usize::from(v)).rev() {
+        products[p] = products[p + 1] * scale_of(words[p]);
     }
     products
 }
@@ -31,7 +27,11 @@ pub fn products(words: &[u32; 64], v: u8) -> [u64; 64]
 fn scale_of(w: u32) -> u64
     ensures { result ≡ scale_of (variable_of w ∷ []) }
 {
-    if kind(w) == 2 { 1 } else { field_r(w) as u64 }
+    if has_kind(w, Kind::Choice) {
+        1
+    } else {
+        u64::from(field_r(w))
+    }
 }
 
 // The shares of the hi arcs and of the lo arcs, by position.
@@ -48,14 +48,11 @@ pub fn shares_by_position(words: &[u32; 64], v: u8) -> SharesByPosition
     ensures high { result.high ≡ high_shares (variables_in words.now v) }
     ensures low { result.low ≡ low_shares (variables_in words.now v) }
 {
-    let mut high = [0u64; 64];
-    let mut low = [1u64; 64];
-    let mut p = v;
-    while 0 < p {
-        p -= 1;
-        let w = words[p as usize];
-        high[p as usize] = high_share(w);
-        low[p as usize] = low_share(w);
+    let mut high = [0; 64];
+    let mut low = [1; 64];
+    for p in 0..usize::from(v) {
+        high[p] = high_share(words[p]);
+        low[p] = low_share(words[p]);
     }
     SharesByPosition { high, low }
 }
@@ -74,16 +71,7 @@ pub fn arc_weight<'a>(
 {
     let at = position_of(positions, node);
     let to = position_of(positions, child_of(children, node));
-    arc(products, share_at(shares, at), at, to)
-}
-
-// The share at a position.
-fn share_at(shares: &[u64; 64], at: Position) -> u64
-    requires { at.0 < 64 }
-    ensures { result ≡ get_or shares.now at.0 0 }
-{
-    let p = at.number();
-    shares[p]
+    arc(products, shares[at.number()], at, to)
 }
 
 // A share, times b of each variable between two positions: the quotient is exact. Most arcs lead to the next position, and
@@ -104,20 +92,20 @@ fn arc(products: &[u64; 64], share: u64, from: Position, to: Position) -> u64
 fn high_share(w: u32) -> u64
     ensures { result ≡ high_share (variable_of w) 1 }
 {
-    if kind(w) == 2 { 1 } else { field_q(w) as u64 }
+    if has_kind(w, Kind::Choice) {
+        1
+    } else {
+        u64::from(field_q(w))
+    }
 }
 
 // The share of a variable's lo arc: b-a of a chance, 1 of a choice.
 fn low_share(w: u32) -> u64
     ensures { result ≡ low_share (variable_of w) 2 }
 {
-    if kind(w) == 2 {
-        return 1;
+    if has_kind(w, Kind::Choice) {
+        1
+    } else {
+        u64::from(field_r(w).saturating_sub(field_q(w)))
     }
-    let a = field_q(w) as u64;
-    let b = field_r(w) as u64;
-    if b < a {
-        return 0;
-    }
-    b - a
 }

@@ -1,5 +1,5 @@
 -- Numbers in decimal: how many digits a number has, and its digits put into a room one by one, the last first. Assumes nothing.
-use Prim.Native.Nat.{ℕ, zero, suc, ◌+◌, ◌-◌, ◌/◌, ◌%◌, ◌^◌, ◌≤◌, ◌<◌}
+use Prim.Native.Nat.{ℕ, zero, suc, ◌+◌, ◌/◌, ◌%◌, ◌^◌, ◌≤◌, ◌<◌}
 use native.Mathlib.Nat.{pow-suc}
 use native.Mathlib.Numerals.{add-one}
 use native.Mathlib.Decide.{dec_lt}
@@ -8,10 +8,9 @@ use mathlib.Core.Path.{◌≡◌, refl, ap, ◌∙◌}
 use mathlib.Core.List.{List, [], ◌∷◌, ◌++◌, append-nil}
 use mathlib.Core.Logic.{by_cases}
 use lib.ListN.{length, set, take, drop, length-append, length-set, length-drop}
-use lib.Seq.{drop_at, take_all, drop-length, length-take-le, set_split, append_snoc}
+use lib.Seq.{drop_at, drop-length, length-take-le, set_split, append_snoc}
 use borrow.Author.Tests.{lt-ltb, le-ltb}
 use Rattle.diagram.specs.Printout.{digits, decimal}
-use Rattle.writing.specs.Wrote.{Wrote}
 
 -- ---------------------------------------------------------------------------
 -- The digits of a number
@@ -98,8 +97,6 @@ module _ {n m k : ℕ} {room : List ℕ} (w : Tail n m k room) where
     pub tail_next : {j q : ℕ} → j ≡ i → 10 ≤ m → q ≡ m / 10 → v ≡ 48 + m % 10 → Tail n q i (set room j v)
     tail_next {j} s l d x = record { text = rw (s, put-before, d, x, ← append_snoc, ← decimal_more m l) w.text; size = length-set room j v ∙ w.size }
 
-    -- or nothing, where it is the only one: what is written from there on is the number
-    pub tail_last : {j : ℕ} {a b : List ℕ} {at end : ℕ} → Wrote a at b end (take (20 - i) (drop i (set room j v))) → j ≡ i → m < 10 → v ≡ 48 + m → Wrote a at b end (decimal n)
-    tail_last wrote s l x =
-        let all = take_all (20 - i) (drop i (set room i v)) (omega (arith, w.size, length-drop i (set room i v), length-set room i v)) in
-        rw (← w.text, decimal-small m l, ← x, ← put-before, ← all) (rw s at wrote)
+    -- or nothing, where it is the only one: what stands from there on is the number
+    pub tail_last : {j : ℕ} → j ≡ i → m < 10 → v ≡ 48 + m → drop j (set room j v) ≡ decimal n
+    tail_last s l x = rw (s, put-before, ← w.text, decimal-small m l, ← x) refl

@@ -1,26 +1,31 @@
 // Numbers in decimal.
-ghost use Rattle.std.specs.Prelude.{◌+◌, ◌≤◌, length};
+ghost use Rattle.std.specs.Prelude.{◌≡◌, ◌≤◌, drop};
 ghost use Rattle.diagram.specs.Printout.{decimal};
-ghost use Rattle.writing.specs.Wrote.{Wrote};
 
-use crate::words::put_word;
+// The digits of a number, at the end of a room that is enough for every number.
+#[derive(Clone, Copy)]
+pub(crate) struct Digits {
+    pub room: [u8; 20],
+    pub first: usize,
+}
 
-// Writes a number in decimal from an index on, and answers the index after it. Whoever calls has 20 bytes there, which are
-// enough for every number. The last digit is found first, so the digits are put into a room from its end, and copied.
-pub fn put_decimal(out: &mut [u8], at: usize, n: u64) -> usize
-    requires { at + 20 ≤ length out.old }
-    ensures { Wrote out.old at out.new result (decimal n) }
-{
-    let mut room = [0u8; 20];
-    let mut first = 20;
-    let mut left = n;
-    loop {
-        let tenth = left / 10;
-        first -= 1;
-        room[first] = (48 + (left - 10 * tenth)) as u8;
-        if tenth == 0 {
-            return put_word(out, at, &room[first..]);
+impl Digits {
+    // The last digit is found first, so the room is filled from its end.
+    pub(crate) fn of(n: u64) -> Digits
+        ensures digits { drop result.first result.room ≡ decimal n }
+        ensures within { result.first ≤ 20 }
+    {
+        let mut room = [0u8; 20];
+        let mut first = 20;
+        let mut left = n;
+        loop {
+            let tenth = left / 10;
+            first -= 1;
+            room[first] = (48 + (left - 10 * tenth)) as u8;
+            if tenth == 0 {
+                return Digits { room, first };
+            }
+            left = tenth;
         }
-        left = tenth;
     }
 }

@@ -1,8 +1,7 @@
-// Text written into a buffer from an index on: words, and numbers in decimal.
+// A text in the making: words and numbers in decimal, one after the other.
 #![tactic(auto)]
 
 mod decimal;
-mod words;
+mod text;
 
-pub use decimal::put_decimal;
-pub use words::put_word;
+pub use text::Text;

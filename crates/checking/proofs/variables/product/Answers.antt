@@ -21,13 +21,13 @@ returns-then-exceeds c =
     let p = c.loop-p.p in
     let x = c.loop-p.product in
     let chance = tested ∙ c.if-not-is_choice.true in
-    let more = scale_more s p (omega arith) x c.loop-p.invariant.value chance (omega arith) c.word_at.ensures c.field_r-b.ensures in
-    let over = ltb-true (2 ^ 56) (x * c.field_r-b.result) (sym c.exceeds.ensures ∙ c.if-exceeds.true) in
+    let more = scale_more s p (omega arith) x c.loop-p.invariant.value chance (omega arith) c.word_at.ensures (c.from-b.ensures ∙ c.field_r.ensures) in
+    let over = ltb-true (2 ^ 56) (x * c.from-b.result) (sym c.exceeds.ensures ∙ c.if-exceeds.true) in
     rw (c.word-then-exceeds.ensures, c.new-at.ensures, prefix_above scale_of (2 ^ 56) s p c.loop-p.invariant (omega arith) (omega arith))
 
 pub overflow_mul-product : goal.overflow_mul-product
 overflow_mul-product c =
-    omega (arith, ltb-false (2 ^ 56) (c.loop-p.product * c.field_r-b.result) (sym c.exceeds.ensures ∙ c.if-exceeds.false))
+    omega (arith, ltb-false (2 ^ 56) (c.loop-p.product * c.from-b.result) (sym c.exceeds.ensures ∙ c.if-exceeds.false))
 
 pub loop-p-preserved : goal.loop-p-preserved
 loop-p-preserved c =
@@ -39,8 +39,8 @@ loop-p-preserved c =
     elim c.if-not-is_choice.branch [
       | then-not-is_choice+else-exceeds w ↦
           let chance = tested ∙ w.if-not-is_choice.true in
-          let more = scale_more s p h x c.loop-p.invariant.value chance (omega arith) w.word_at.ensures w.field_r-b.ensures in
-          let within = ltb-false (2 ^ 56) (x * w.field_r-b.result) (sym w.exceeds.ensures ∙ w.if-exceeds.false) in
+          let more = scale_more s p h x c.loop-p.invariant.value chance (omega arith) w.word_at.ensures (w.from-b.ensures ∙ w.field_r.ensures) in
+          let within = ltb-false (2 ^ 56) (x * w.from-b.result) (sym w.exceeds.ensures ∙ w.if-exceeds.false) in
           prefix_next scale_of (2 ^ 56) s p c.loop-p.invariant h _ (omega arith) (omega arith)
       | else-not-is_choice w ↦
           let same = scale_same s p h (tested ∙ w.if-not-is_choice.false) in

@@ -1,5 +1,5 @@
 -- `variable_fault` meets its contract. The loop's invariant: the first place at fault is the first from the next word on.
--- The measure is the number of variables left. Assumes nothing.
+-- Assumes nothing.
 use Prim.Native.Nat.{ℕ, ◌+◌, ◌-◌}
 use mathlib.Core.Path.{◌≡◌}
 use mathlib.Core.Bool.{Bool, not}
@@ -15,6 +15,3 @@ wrong s i = not (is_variable_word (i - 1) (word_at s i))
 
 abbrev pub invariant-loop-p : goal.invariant-loop-p
 invariant-loop-p l = variable_fault l.file ≡ first_place (wrong l.file) (1 + l.p) (variable_count l.file - l.p)
-
-abbrev pub decreases-loop-p : goal.decreases-loop-p
-decreases-loop-p l = l.v - l.p

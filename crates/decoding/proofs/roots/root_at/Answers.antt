@@ -21,20 +21,20 @@ returns-then-root_word_count-eq0 c =
     let e = root_none _ none c.args.i c.requires.2 in
     record { node = rw e (omega (arith, c.of_record.ensures, n, heading-records _ c.requires.0)); reward = rw e refl }
 
-pub overflow_add-variable_count-3 : goal.overflow_add-variable_count-3
-overflow_add-variable_count-3 c = omega (arith, c.root_word_count.ensures, c.record_count-n.ensures, c.requires.2, count-words c.args.file.now (omega (arith, c.root_word_count.ensures.count, c.if-root_word_count-eq0.false)), heading-roots _ c.requires.0)
+pub overflow_add-from-3 : goal.overflow_add-from-3
+overflow_add-from-3 c = omega (arith, c.root_word_count.ensures, c.record_count-n.ensures, c.requires.2, count-words c.args.file.now (omega (arith, c.root_word_count.ensures.count, c.if-root_word_count-eq0.false)), heading-roots _ c.requires.0)
 
 pub overflow_cast-field_r : goal.overflow_cast-field_r
 unfolding root_of
 overflow_cast-field_r c =
     let root-read : root_of c.word_at-w.result ≡ root_at (table_of c.args.file.now).roots c.args.i = let some : 0 < root_count c.args.file.now = omega (arith, c.root_word_count.ensures.count, c.if-root_word_count-eq0.false) in
-    ap root_of (rw (c.variable_count.ensures.count, c.record_count-n.ensures.count) at c.word_at-w.ensures) ∙ sym (root-word _ some c.args.i c.requires.2) in
+    ap root_of (rw (c.from.ensures, c.variable_count.ensures.count, c.record_count-n.ensures.count) at c.word_at-w.ensures) ∙ sym (root-word _ some c.args.i c.requires.2) in
     omega (arith, c.field_r.ensures, ap (λ (r : Root). r.node) root-read, (root_is _ c.requires.0 c.requires.1 _ c.requires.2).within.1, heading-records _ c.requires.0)
 
 pub returns : goal.returns
 unfolding root_of
 returns c =
     let root-read : root_of c.word_at-w.result ≡ root_at (table_of c.args.file.now).roots c.args.i = let some : 0 < root_count c.args.file.now = omega (arith, c.root_word_count.ensures.count, c.if-root_word_count-eq0.false) in
-    ap root_of (rw (c.variable_count.ensures.count, c.record_count-n.ensures.count) at c.word_at-w.ensures) ∙ sym (root-word _ some c.args.i c.requires.2) in
+    ap root_of (rw (c.from.ensures, c.variable_count.ensures.count, c.record_count-n.ensures.count) at c.word_at-w.ensures) ∙ sym (root-word _ some c.args.i c.requires.2) in
     let read = root-read in
-    record { node = c.new.ensures ∙ c.field_r.ensures ∙ ap (λ (r : Root). r.node) read; reward = c.field_q.ensures ∙ ap (λ (r : Root). r.reward) read }
+    record { node = c.new.ensures ∙ c.field_r.ensures ∙ ap (λ (r : Root). r.node) read; reward = c.from-2.ensures ∙ c.field_q.ensures ∙ ap (λ (r : Root). r.reward) read }

@@ -14,38 +14,23 @@ unfolding sequence
 loop-i-init c =
     let e = c.root_count-count.ensures.count in
     let pre = c.requires in
-    (e, omega arith, omega (arith, e, roots_few _ pre.0 pre.1), sym (pad_none 16), sym (pad_none 16))
-
-pub root_at-root-requires : goal.root_at-root-requires
-root_at-root-requires c =
-    let pre = c.requires in
-    (pre.0, pre.1, omega (arith, c.loop-i.invariant.0))
-
-pub bounds-nodes-i : goal.bounds-nodes-i
-bounds-nodes-i c = omega (arith, c.loop-i.invariant.2)
-
-pub offset_bounds-rewards-i : goal.offset_bounds-rewards-i
-offset_bounds-rewards-i c = omega (arith, c.loop-i.invariant.2)
-
-pub bounds-rewards-i : goal.bounds-rewards-i
-bounds-rewards-i c = omega (arith, c.loop-i.invariant.2)
+    (e, omega (arith, e, roots_few _ pre.0 pre.1), sym (pad_none 16), sym (pad_none 16))
 
 pub loop-i-preserved : goal.loop-i-preserved
 loop-i-preserved c =
     let inv = c.loop-i.invariant in
     let i = c.loop-i.i in
     let root = c.root_at-root.ensures in
-    let room : i < 16 = omega (arith, inv.2) in (
+    let room : i < 16 = omega (arith, inv.1) in (
       inv.0,
-      omega arith,
-      inv.2,
-      pad_sequence 16 _ 0 i _ room inv.3 refl (rw (c.byte.ensures, zero-add) root.node),
-      pad_sequence 16 _ 0 i _ room inv.4 refl (rw zero-add root.reward),
+      inv.1,
+      pad_sequence 16 _ 0 i _ room inv.2 refl (rw (c.byte.ensures, zero-add) root.node),
+      pad_sequence 16 _ 0 i _ room inv.3 refl (rw zero-add root.reward),
     )
 
 pub returns : goal.returns
 unfolding root_nodes root_rewards
 returns c =
     let inv = c.loop-i.invariant in
-    let all : c.loop-i.i ≡ length (table_of c.args.file.now).roots = omega (arith, inv.0, inv.1) in
-    record { count = inv.0; nodes = rw all at inv.3; rewards = rw all at inv.4 }
+    let all : c.loop-i.i ≡ length (table_of c.args.file.now).roots = omega (arith, inv.0) in
+    record { count = inv.0; nodes = rw all at inv.2; rewards = rw all at inv.3 }

@@ -1,6 +1,5 @@
--- `roots_of` meets its contract. The loop's invariant: the nodes and rewards of the first i roots are in their cells, and the others 0. The measure is
--- the number of roots left. Assumes nothing.
-use Prim.Native.Nat.{◌-◌, ◌≤◌}
+-- `roots_of` meets its contract. The loop's invariant: the nodes and rewards of the first i roots are in their cells, and the others 0. Assumes nothing.
+use Prim.Native.Nat.{◌≤◌}
 use mathlib.Core.Path.{◌≡◌}
 use lib.ListN.{length}
 use Rattle.diagram.specs.Table.{sequence, table_of}
@@ -10,10 +9,6 @@ use Rattle.decoding.proofs.roots.roots_of.Given as goal
 abbrev pub invariant-loop-i : goal.invariant-loop-i
 invariant-loop-i l =
     (l.count ≡ length (table_of l.file).roots)
-    × (l.i ≤ l.count)
     × (l.count ≤ 16)
     × (l.nodes ≡ pad_to 16 (sequence (λ j. (root_at (table_of l.file).roots j).node) 0 l.i))
     × (l.rewards ≡ pad_to 16 (sequence (λ j. (root_at (table_of l.file).roots j).reward) 0 l.i))
-
-abbrev pub decreases-loop-i : goal.decreases-loop-i
-decreases-loop-i l = l.count - l.i

@@ -14,65 +14,45 @@ loss_read : (ls ws vs : List ℕ) (n k : ℕ) {node x : ℕ} → k < n → node 
 loss_read ls ws vs n k h e ex = ex ∙ rw e (sym (over-at (λ (k : ℕ). loss_of ls ws vs (k + 2)) (replicate 256 0) n k h))
 
 pub loop-k-init : goal.loop-k-init
-loop-k-init c = (omega arith, summed_start _)
-
-pub of_record-node-requires : goal.of_record-node-requires
-of_record-node-requires c = omega (arith, c.requires.sums.few)
-
-pub mark_at-requires : goal.mark_at-requires
-mark_at-requires c = position-within c.requires.sums c.loop-k-test.true c.of_record-node.ensures c.position_of-at.ensures refl
-
-pub loss_of-lost-requires : goal.loss_of-lost-requires
-loss_of-lost-requires c = rw c.of_record-node.ensures (c.requires.losses _ c.loop-k-test.true)
-
-pub overflow_add-k : goal.overflow_add-k
-overflow_add-k c = omega (arith, c.requires.sums.few)
-
-pub offset_bounds-paths-k : goal.offset_bounds-paths-k
-offset_bounds-paths-k c = omega (arith, c.requires.sums.few)
-
-pub bounds-paths-k : goal.bounds-paths-k
-bounds-paths-k c = omega (arith, c.requires.sums.few)
+loop-k-init c = summed_start _
 
 pub overflow_mul-paths : goal.overflow_mul-paths
 overflow_mul-paths c =
-    let lost : let a = c.args in get_or a.paths.now (c.loop-k.k + 2) 0 * c.loss_of-lost.result ≡ get_or a.paths.now (c.loop-k.k + 2) 0 * get_or (losses_of a.table.low a.arcs.now a.values.now a.table.records) (c.loop-k.k + 2) 0 = let a = c.args in
-    rw (loss_read a.table.low a.arcs.now a.values.now a.table.records c.loop-k.k c.loop-k-test.true c.of_record-node.ensures c.loss_of-lost.ensures) refl in
+    let t = c.args.table.now in
+    let lost : let a = c.args in get_or a.paths.now (c.loop-k.k + 2) 0 * c.loss_of-lost.result ≡ get_or a.paths.now (c.loop-k.k + 2) 0 * get_or (losses_of t.low a.arcs.now a.values.now t.records) (c.loop-k.k + 2) 0 = let a = c.args in
+    rw (loss_read t.low a.arcs.now a.values.now t.records c.loop-k.k c.loop-k-test.true c.of_record-node.ensures c.loss_of-lost.ensures) refl in
     record { fits = rw lost (loss_fits c.requires.sums c.loop-k-test.true c.of_record-node.ensures c.position_of-at.ensures c.mark_at.ensures c.if-mark_at-eq-OPEN.true) }
 
 pub lose-requires : goal.lose-requires
 lose-requires c =
-    let lost : let a = c.args in get_or a.paths.now (c.loop-k.k + 2) 0 * c.loss_of-lost.result ≡ get_or a.paths.now (c.loop-k.k + 2) 0 * get_or (losses_of a.table.low a.arcs.now a.values.now a.table.records) (c.loop-k.k + 2) 0 = let a = c.args in
-    rw (loss_read a.table.low a.arcs.now a.values.now a.table.records c.loop-k.k c.loop-k-test.true c.of_record-node.ensures c.loss_of-lost.ensures) refl in
+    let t = c.args.table.now in
+    let lost : let a = c.args in get_or a.paths.now (c.loop-k.k + 2) 0 * c.loss_of-lost.result ≡ get_or a.paths.now (c.loop-k.k + 2) 0 * get_or (losses_of t.low a.arcs.now a.values.now t.records) (c.loop-k.k + 2) 0 = let a = c.args in
+    rw (loss_read t.low a.arcs.now a.values.now t.records c.loop-k.k c.loop-k-test.true c.of_record-node.ensures c.loss_of-lost.ensures) refl in
     let losing = c.requires.sums in
-    let summed = c.loop-k.invariant.1 in
+    let summed = c.loop-k.invariant in
     let taken = c.loop-k-test.true in
     let node = c.of_record-node.ensures in
     let position = c.position_of-at.ensures in
     let mark = c.mark_at.ensures in
-    (summed.size, position-within losing taken node position mark, cell-fits losing taken node position mark c.if-mark_at-eq-OPEN.true summed lost)
-
-pub overflow_add-k-in-loop-k : goal.overflow_add-k-in-loop-k
-overflow_add-k-in-loop-k c = omega (arith, c.requires.sums.few)
+    (position-within losing taken node position mark, cell-fits losing taken node position mark c.if-mark_at-eq-OPEN.true summed lost)
 
 pub loop-k-preserved : goal.loop-k-preserved
 loop-k-preserved c =
     let a = c.args in
+    let t = a.table.now in
     let losing = c.requires.sums in
-    let summed = c.loop-k.invariant.1 in
+    let summed = c.loop-k.invariant in
     let taken = c.loop-k-test.true in
     let node = c.of_record-node.ensures in
     let position = c.position_of-at.ensures in
     let mark = c.mark_at.ensures in
-    let k = c.loop-k.k in (
-      omega arith,
-      elim c.if-mark_at-eq-OPEN.branch [
-        | then-mark_at-eq-OPEN w ↦ rw (w.drops-is, w.lose.ensures) (summed_open losing taken node position mark w.if-mark_at-eq-OPEN.true summed (rw (loss_read a.table.low a.arcs.now a.values.now a.table.records k taken node w.loss_of-lost.ensures) refl))
-        | else-mark_at-eq-OPEN w ↦ rw w.drops-is (summed_shut losing taken node position mark summed w.if-mark_at-eq-OPEN.false)
-      ],
-    )
+    let k = c.loop-k.k in
+    elim c.if-mark_at-eq-OPEN.branch [
+      | then-mark_at-eq-OPEN w ↦ rw (w.drops-is, w.lose.ensures) (summed_open losing taken node position mark w.if-mark_at-eq-OPEN.true summed (rw (loss_read t.low a.arcs.now a.values.now t.records k taken node w.loss_of-lost.ensures) refl))
+      | else-mark_at-eq-OPEN w ↦ rw w.drops-is (summed_shut losing taken node position mark summed w.if-mark_at-eq-OPEN.false)
+    ]
 
 pub returns : goal.returns
 returns c =
-    let e : c.loop-k.k ≡ c.args.table.records = omega (arith, c.loop-k.invariant.0) in
-    summed_end (rw e at c.loop-k.invariant.1)
+    let e : c.loop-k.k ≡ c.args.table.now.records = omega arith in
+    summed_end (rw e at c.loop-k.invariant)

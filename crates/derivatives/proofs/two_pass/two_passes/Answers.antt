@@ -1,11 +1,12 @@
 -- `two_passes` meets its contract: the losses of the nodes, each times its path weight, come to the drops by position, and those are the choices'.
 -- Assumes nothing.
-use Prim.Native.Nat.{ℕ, ◌<◌}
+use Prim.Native.Nat.{ℕ, ◌≤◌, ◌<◌}
 use native.Mathlib.Nat.{zero-add}
 use native.Mathlib.Omega.{arith}
 use mathlib.Core.Path.{◌≡◌, refl, ap, ◌∙◌}
 use mathlib.Core.List.{List}
-use lib.ListN.{length, get_or, replicate}
+use lib.ListN.{length, get_or, replicate, take, length-take}
+use Rattle.std.proofs.lemmas.List.{get_or-take}
 use Rattle.diagram.specs.Table.{sequence}
 use Rattle.diagram.specs.Plans.{derivative}
 use Rattle.decoding.specs.Decoding.{table_in}
@@ -16,37 +17,34 @@ use Rattle.valuing.specs.Passes.{Marked}
 use Rattle.valuing.proofs.Bounding.{marked}
 use Rattle.valuing.proofs.Gaining.{losses_fit}
 use Rattle.derivatives.specs.Drops.{derivative_at}
-use Rattle.derivatives.proofs.Deriving.{root-fits, root-size, budget, losing, drops_are, drops-chosen, drops-all}
+use Rattle.derivatives.proofs.Deriving.{root-fits, budget, losing, drops_are, drops-chosen, drops-all}
 use Rattle.derivatives.proofs.two_pass.two_passes.Goals as goal
-
-pub value_plan-valued-requires : goal.value_plan-valued-requires
-value_plan-valued-requires c = record { sound = c.requires.sound; plan = c.requires.plan; zeros = (refl, refl, refl) }
 
 pub enter-requires : goal.enter-requires
 enter-requires c =
-    let holds : let t = c.args.table in Marked (table_in t) c.args.plan.now t.records t.positions t.high t.low c.value_plan-valued.new.arcs c.value_plan-valued.result.marks = let pre = c.requires in
+    let holds : let t = c.args.table.now in Marked (table_in t) c.args.plan.now t.records t.positions t.high t.low c.value_plan-valued.new.arcs c.value_plan-valued.result.marks = let pre = c.requires in
     let valued = c.value_plan-valued.ensures in
     marked pre.sound _ pre.plan.0 pre.plan.1 valued.arcs valued.marks in
-    let roots_are : RootsHeld (table_in c.args.table) c.value_plan-valued.result.roots = roots-held c.requires.sound.valid c.value_plan-valued.ensures.roots in
+    let roots_are : RootsHeld (table_in c.args.table.now) c.value_plan-valued.result.roots = roots-held c.requires.sound.valid c.value_plan-valued.ensures.roots in
     let valued = c.value_plan-valued.ensures in
-    record { fits = (roots_are.few, root-fits holds valued.in_force roots_are refl); sizes = refl }
+    (roots_are.few, root-fits holds valued.in_force roots_are refl)
 
 pub pass_down-requires : goal.pass_down-requires
 pass_down-requires c =
-    let holds : let t = c.args.table in Marked (table_in t) c.args.plan.now t.records t.positions t.high t.low c.value_plan-valued.new.arcs c.value_plan-valued.result.marks = let pre = c.requires in
+    let holds : let t = c.args.table.now in Marked (table_in t) c.args.plan.now t.records t.positions t.high t.low c.value_plan-valued.new.arcs c.value_plan-valued.result.marks = let pre = c.requires in
     let valued = c.value_plan-valued.ensures in
     marked pre.sound _ pre.plan.0 pre.plan.1 valued.arcs valued.marks in
-    let roots_are : RootsHeld (table_in c.args.table) c.value_plan-valued.result.roots = roots-held c.requires.sound.valid c.value_plan-valued.ensures.roots in
+    let roots_are : RootsHeld (table_in c.args.table.now) c.value_plan-valued.result.roots = roots-held c.requires.sound.valid c.value_plan-valued.ensures.roots in
     let valued = c.value_plan-valued.ensures in
     let entered = c.enter.ensures in
-    record { budget = (holds.size.1, (_, budget holds valued.in_force roots_are entered)); sizes = root-size holds valued.in_force roots_are entered }
+    (holds.size.1, (_, budget holds valued.in_force roots_are entered))
 
 pub drops_by_position-drops-requires : goal.drops_by_position-drops-requires
 drops_by_position-drops-requires c =
-    let holds : let t = c.args.table in Marked (table_in t) c.args.plan.now t.records t.positions t.high t.low c.value_plan-valued.new.arcs c.value_plan-valued.result.marks = let pre = c.requires in
+    let holds : let t = c.args.table.now in Marked (table_in t) c.args.plan.now t.records t.positions t.high t.low c.value_plan-valued.new.arcs c.value_plan-valued.result.marks = let pre = c.requires in
     let valued = c.value_plan-valued.ensures in
     marked pre.sound _ pre.plan.0 pre.plan.1 valued.arcs valued.marks in
-    let roots_are : RootsHeld (table_in c.args.table) c.value_plan-valued.result.roots = roots-held c.requires.sound.valid c.value_plan-valued.ensures.roots in
+    let roots_are : RootsHeld (table_in c.args.table.now) c.value_plan-valued.result.roots = roots-held c.requires.sound.valid c.value_plan-valued.ensures.roots in
     let valued = c.value_plan-valued.ensures in
     let monotone = c.requires.sound.valid.monotone in
     record { losses = losses_fit holds valued.values monotone; sums = losing holds monotone valued.in_force valued.values roots_are c.enter.ensures c.pass_down.ensures refl }
@@ -54,23 +52,29 @@ drops_by_position-drops-requires c =
 pub by_choice-requires : goal.by_choice-requires
 by_choice-requires c =
     let sound = c.requires.sound in
-    (omega (arith, sound.held.choices, sound.valid.choices), λ i h. omega (arith, (choice-position_in sound.held i h).within, sound.valid.variables))
+    let d = c.args.table.now in
+    let few : d.choices ≤ 20 = omega (arith, sound.held.choices, sound.valid.choices) in
+    let long : length (take d.choices d.choice_positions) ≡ d.choices = simp length-take (omega arith) in
+    (omega (arith, long), λ i h. let l : i < d.choices = omega (arith, long) in rw (get_or-take d.choices d.choice_positions i 0 l) (omega (arith, (choice-position_in sound.held i l).within, sound.valid.variables)))
 
 pub returns : goal.returns
 returns c =
-    let holds : let t = c.args.table in Marked (table_in t) c.args.plan.now t.records t.positions t.high t.low c.value_plan-valued.new.arcs c.value_plan-valued.result.marks = let pre = c.requires in
+    let holds : let t = c.args.table.now in Marked (table_in t) c.args.plan.now t.records t.positions t.high t.low c.value_plan-valued.new.arcs c.value_plan-valued.result.marks = let pre = c.requires in
     let valued = c.value_plan-valued.ensures in
     marked pre.sound _ pre.plan.0 pre.plan.1 valued.arcs valued.marks in
-    let roots_are : RootsHeld (table_in c.args.table) c.value_plan-valued.result.roots = roots-held c.requires.sound.valid c.value_plan-valued.ensures.roots in
-    let drops : c.drops_by_position-drops.result ≡ sequence (derivative_at (table_in c.args.table) c.args.plan.now) 0 64 = let valued = c.value_plan-valued.ensures in
+    let roots_are : RootsHeld (table_in c.args.table.now) c.value_plan-valued.result.roots = roots-held c.requires.sound.valid c.value_plan-valued.ensures.roots in
+    let drops : c.drops_by_position-drops.result ≡ sequence (derivative_at (table_in c.args.table.now) c.args.plan.now) 0 64 = let valued = c.value_plan-valued.ensures in
     c.drops_by_position-drops.ensures ∙ drops_are holds c.requires.sound.valid.monotone valued.in_force valued.values roots_are c.enter.ensures c.pass_down.ensures refl in
     let sound = c.requires.sound in
-    let d = c.args.table in
+    let d = c.args.table.now in
     let t = table_in d in
     let p = c.args.plan.now in
     let few : length t.variables < 64 = omega (arith, sound.valid.variables) in
     let chosen = drops-chosen t p few drops in
     let cells = c.drops_by_position-drops.result in
-    let picked : (k : ℕ) → k < d.choices → get_or cells (get_or d.choice_positions k 0) 0 ≡ derivative t p k = λ k h. let at = choice-position_in sound.held k h in chosen _ at.within at.is ∙ ap (derivative t p) at.number in
-    let same = sequence-same (λ (i : ℕ). get_or cells (get_or d.choice_positions i 0) 0) (derivative t p) 0 0 d.choices (λ k h. rw zero-add (picked k h)) in
-    record { bound = c.value_plan-valued.ensures.bound; drops = c.by_choice.ensures ∙ ap (λ (ds : List ℕ). over ds (replicate 20 0)) (same ∙ ap (sequence (derivative t p) 0) sound.held.choices ∙ drops-all t p c.requires.plan.0) }
+    let front = take d.choices d.choice_positions in
+    let few_choices : d.choices ≤ 20 = omega (arith, sound.held.choices, sound.valid.choices) in
+    let long : length front ≡ d.choices = simp length-take (omega arith) in
+    let picked : (k : ℕ) → k < d.choices → get_or cells (get_or front k 0) 0 ≡ derivative t p k = λ k h. rw (get_or-take d.choices d.choice_positions k 0 h) (let at = choice-position_in sound.held k h in chosen _ at.within at.is ∙ ap (derivative t p) at.number) in
+    let same = sequence-same (λ (i : ℕ). get_or cells (get_or front i 0) 0) (derivative t p) 0 0 d.choices (λ k h. rw zero-add (picked k h)) in
+    record { bound = c.value_plan-valued.ensures.bound; drops = rw long at c.by_choice.ensures ∙ ap (λ (ds : List ℕ). over ds (replicate 20 0)) (same ∙ ap (sequence (derivative t p) 0) sound.held.choices ∙ drops-all t p c.requires.plan.0) }

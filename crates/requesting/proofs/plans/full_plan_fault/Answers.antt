@@ -1,42 +1,18 @@
-use Prim.Native.Nat.{◌+◌}
-use native.Mathlib.Nat.{zero-add}
-use native.Mathlib.Omega.{arith}
-use mathlib.Core.Path.{◌∙◌}
-use lib.ListN.{length}
-use borrow.Author.Tests.{lt-ltb, le-ltb, eq-eqb, ne_eqb}
+-- `full_plan_fault` meets its contract: the place that the search finds is the first at fault. Assumes nothing.
+use mathlib.Core.Path.{◌≡◌, ◌∙◌}
+use mathlib.Core.Bool.{◌||◌}
+use lib.Dec.{eqb, ltb}
+use borrow.Author.Rules.{rules}
+use borrow.Author.Tests.{tests}
+use Rattle.std.specs.List.{position}
+use Rattle.std.proofs.lemmas.Iterator.{YieldsList-from_slice}
+use Rattle.std.proofs.lemmas.Iterator.Search.{position_from_yields_List}
 use Rattle.diagram.specs.Checks.{full_plan_fault}
-use Rattle.diagram.proofs.Places.{place-start, place_here, place-next, place_end}
-use Rattle.steps.specs.Steps.{fault_of}
-use Rattle.requesting.proofs.plans.full_plan_fault.Invariants.{wrong}
+use Rattle.requesting.proofs.Marks.{place-position}
 use Rattle.requesting.proofs.plans.full_plan_fault.Goals as goal
 
-pub loop-i-init : goal.loop-i-init
-unfolding full_plan_fault
-loop-i-init c = place-start (wrong c.args.plan.now) 0 _
-
-pub returns-then-plan-i-gt-LEFT : goal.returns-then-plan-i-gt-LEFT
-unfolding fault_of
-returns-then-plan-i-gt-LEFT c =
-    let plan = c.args.plan.now in
-    let i = c.loop-i.i in
-    rw (c.loop-i.invariant, place_here (wrong plan) 0 (length plan) i (omega arith) (simp (zero-add, lt-ltb _ _ c.if-plan-i-gt-LEFT.true)), zero-add)
-
-pub returns-then-plan-i-eq-OPEN : goal.returns-then-plan-i-eq-OPEN
-unfolding fault_of
-returns-then-plan-i-eq-OPEN c =
-    let plan = c.args.plan.now in
-    let i = c.loop-i.i in
-    rw (c.loop-i.invariant, place_here (wrong plan) 0 (length plan) i (omega arith) (simp (zero-add, le-ltb _ _ c.if-plan-i-gt-LEFT.false, eq-eqb _ _ c.if-plan-i-eq-OPEN.true)), zero-add)
-
-pub loop-i-preserved : goal.loop-i-preserved
-loop-i-preserved c =
-    let plan = c.args.plan.now in
-    let i = c.loop-i.i in
-    c.loop-i.invariant ∙ place-next (wrong plan) 0 (length plan) i (omega arith) (simp (zero-add, le-ltb _ _ c.if-plan-i-gt-LEFT.false, ne_eqb _ _ c.if-plan-i-eq-OPEN.false))
-
 pub returns : goal.returns
-unfolding fault_of
+unfolding full_plan_fault
 returns c =
-    let plan = c.args.plan.now in
-    let i = c.loop-i.i in
-    rw (c.loop-i.invariant, place_end (wrong plan) (0 + i) (length plan) i (omega arith))
+    let found : c.position.result ≡ position (λ m. ltb 2 m || eqb m 0) c.args.plan.now = position_from_yields_List (λ m. ltb 2 m || eqb m 0) _ _ _ c.position.ensures.ran (YieldsList-from_slice c.args.plan.now cc) (λ x b q k. search (rules, tests)) in
+    found ∙ place-position (λ m. ltb 2 m || eqb m 0) c.args.plan.now

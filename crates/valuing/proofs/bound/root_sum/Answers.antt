@@ -19,30 +19,13 @@ fits roots vs i e f g h k =
 
 pub loop-i-init : goal.loop-i-init
 unfolding root_sum
-loop-i-init c = (omega arith, c.requires.0, c.requires.1, refl)
-
-pub bounds-roots-i : goal.bounds-roots-i
-bounds-roots-i c = omega (arith, c.loop-i.invariant.1)
-
-pub offset_bounds-roots-i : goal.offset_bounds-roots-i
-offset_bounds-roots-i c = omega (arith, c.loop-i.invariant.1)
-
-pub bounds-roots-i-in-loop-i : goal.bounds-roots-i-in-loop-i
-bounds-roots-i-in-loop-i c = omega (arith, c.loop-i.invariant.1)
+loop-i-init c = refl
 
 pub overflow_mul-sum : goal.overflow_mul-sum
-overflow_mul-sum c = omega (arith, fits c.args.roots c.args.values.now c.loop-i.i c.loop-i.invariant.3 c.value_of.ensures c.new-node.ensures (omega arith) c.loop-i.invariant.2)
+overflow_mul-sum c = omega (arith, fits c.args.roots.now c.args.values.now c.loop-i.i c.loop-i.invariant c.value_of.ensures c.new.ensures (omega arith) c.requires.1)
 
 pub overflow_add-sum : goal.overflow_add-sum
-overflow_add-sum c = omega (arith, fits c.args.roots c.args.values.now c.loop-i.i c.loop-i.invariant.3 c.value_of.ensures c.new-node.ensures (omega arith) c.loop-i.invariant.2)
+overflow_add-sum c = omega (arith, fits c.args.roots.now c.args.values.now c.loop-i.i c.loop-i.invariant c.value_of.ensures c.new.ensures (omega arith) c.requires.1)
 
 pub loop-i-preserved : goal.loop-i-preserved
-loop-i-preserved c =
-    let inv = c.loop-i.invariant in
-    (omega arith, inv.1, inv.2, next c.args.roots c.args.values.now c.loop-i.i c.loop-i.invariant.3 c.value_of.ensures c.new-node.ensures)
-
-pub returns : goal.returns
-returns c =
-    let inv = c.loop-i.invariant in
-    let all : c.loop-i.i ≡ c.args.roots.count = omega (arith, inv.0) in
-    rw all at inv.3
+loop-i-preserved c = next c.args.roots.now c.args.values.now c.loop-i.i c.loop-i.invariant c.value_of.ensures c.new.ensures

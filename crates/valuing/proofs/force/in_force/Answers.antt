@@ -1,11 +1,13 @@
 use Prim.Native.Nat.{ℕ, ◌+◌}
-use native.Mathlib.Omega.{arith}
-use mathlib.Core.Path.{◌≡◌, refl, ◌∙◌}
+use mathlib.Core.Path.{◌≡◌, refl}
 use mathlib.Core.List.{List}
-use lib.ListN.{get_or, length-set}
+use mathlib.Core.Bool.{cond}
+use lib.ListN.{get_or}
+use lib.Dec.{eqb}
+use Rattle.ordering.specs.Numbers.{high_arc_number, low_arc_number}
 use Rattle.weighing.specs.Weights.{arcs_over}
 use Rattle.weighing.proofs.ByArc.{arcs-next}
-use Rattle.valuing.specs.Passes.{mark_at_record}
+use Rattle.valuing.specs.Passes.{mark_at_record, high_in_force, low_in_force, high_in_force_at, low_in_force_at}
 use Rattle.valuing.proofs.force.in_force.Goals as goal
 
 -- the mark of a turn, by the position that the code has read
@@ -13,24 +15,21 @@ mark : (ps ms : List ℕ) (k : ℕ) {m at n : ℕ} → m ≡ get_or ms at 0 → 
 unfolding mark_at_record
 mark ps ms k e f g = rw (e, f, g)
 
+-- the weights of a turn, by the mark that closes the arc and the weight that the code has read
+high_is : (ps ms ws : List ℕ) (k : ℕ) {m closing w x : ℕ} → m ≡ mark_at_record ps ms k → closing ≡ 2 → w ≡ get_or ws (high_arc_number k) 0 → x ≡ cond (eqb m closing) 0 w → x ≡ high_in_force_at ps ms ws k
+unfolding high_in_force
+high_is ps ms ws k e f g h = rw (h, e, f, g) refl
+
+low_is : (ps ms ws : List ℕ) (k : ℕ) {m closing w x : ℕ} → m ≡ mark_at_record ps ms k → closing ≡ 1 → w ≡ get_or ws (low_arc_number k) 0 → x ≡ cond (eqb m closing) 0 w → x ≡ low_in_force_at ps ms ws k
+unfolding low_in_force
+low_is ps ms ws k e f g h = rw (h, e, f, g) refl
+
 pub loop-k-init : goal.loop-k-init
 unfolding arcs_over
-loop-k-init c = (omega arith, c.requires.2, refl)
-
-pub mark_at-mark-requires : goal.mark_at-mark-requires
-mark_at-mark-requires c = rw c.position_of.ensures (c.requires.1 _)
+loop-k-init c = refl
 
 pub loop-k-preserved : goal.loop-k-preserved
 loop-k-preserved c =
-    let inv = c.loop-k.invariant in
-    let marked = mark c.args.positions.now c.args.marks.now c.loop-k.k c.mark_at-mark.ensures c.position_of.ensures c.of_record.ensures in (
-      omega arith,
-      simp length-set inv.1,
-      arcs-next _ _ _ inv.2 (c.high_weight.ensures ∙ rw marked) (c.low_weight.ensures ∙ rw marked),
-    )
-
-pub returns : goal.returns
-returns c =
-    let inv = c.loop-k.invariant in
-    let e : c.loop-k.k ≡ c.args.n = omega arith in
-    rw e at inv.2
+    let a = c.args in
+    let marked = mark a.positions.now a.marks.now c.loop-k.k c.mark_at-mark.ensures c.position_of.ensures c.of_record.ensures in
+    arcs-next _ _ _ c.loop-k.invariant (high_is a.positions.now a.marks.now a.arcs.now c.loop-k.k marked refl refl c.weight_under.ensures) (low_is a.positions.now a.marks.now a.arcs.now c.loop-k.k marked refl refl c.weight_under-in-loop-k.ensures)

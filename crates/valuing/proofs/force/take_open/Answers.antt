@@ -1,13 +1,14 @@
-use native.Mathlib.Omega.{arith}
-use Rattle.arrays.proofs.Over.{write_none, write_next}
-use Rattle.valuing.proofs.Forcing.{taken-all}
+use Rattle.std.proofs.Common.{arith}
+use Rattle.valuing.proofs.Forcing.{taken_line, taken_other, taken_end}
 use Rattle.valuing.proofs.force.take_open.Goals as goal
+use Rattle.valuing.proofs.force.take_open.Goals.{then-mark-eq-OPEN, else-mark-eq-OPEN}
 
-pub loop-x-init : goal.loop-x-init
-loop-x-init c = (omega arith, write_none _ _)
-
-pub loop-x-preserved : goal.loop-x-preserved
-loop-x-preserved c = (omega arith, write_next _ _ (omega arith) c.loop-x.invariant.1 c.taken_mark.ensures)
+pub loop-mark-preserved : goal.loop-mark-preserved
+loop-mark-preserved c =
+    elim c.if-mark-eq-OPEN.branch [
+      | then-mark-eq-OPEN w ↦ rw w.mark-items-is (taken_line c.loop-mark.invariant (omega arith) w.if-mark-eq-OPEN.true)
+      | else-mark-eq-OPEN w ↦ rw w.mark-items-is (taken_other c.loop-mark.invariant (omega arith) w.if-mark-eq-OPEN.false)
+    ]
 
 pub returns : goal.returns
-returns c = taken-all _ c.loop-x.invariant.1 (omega (arith, c.loop-x.invariant.0))
+returns c = taken_end c.loop-mark.invariant (omega arith) (omega arith)

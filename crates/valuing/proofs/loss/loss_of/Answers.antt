@@ -2,16 +2,6 @@
 use Rattle.valuing.proofs.Gaining.{Lost, lost}
 use Rattle.valuing.proofs.loss.loss_of.Goals as goal
 
-pub overflow_mul-left : goal.overflow_mul-left
-overflow_mul-left c =
-    let read : Lost c.args.low.now c.args.arcs.now c.args.values.now c.args.node.0 c.number-m.result c.value_of.result = lost _ _ _ c.number-m.ensures c.child_of-child.ensures c.value_of.ensures c.requires in
-    record { fits = read.left }
-
-pub overflow_sub-result : goal.overflow_sub-result
-overflow_sub-result c =
-    let read : Lost c.args.low.now c.args.arcs.now c.args.values.now c.args.node.0 c.number-m.result c.value_of.result = lost _ _ _ c.number-m.ensures c.child_of-child.ensures c.value_of.ensures c.requires in
-    read.gains
-
 pub returns : goal.returns
 returns c =
     let read : Lost c.args.low.now c.args.arcs.now c.args.values.now c.args.node.0 c.number-m.result c.value_of.result = lost _ _ _ c.number-m.ensures c.child_of-child.ensures c.value_of.ensures c.requires in

@@ -1,7 +1,7 @@
 -- `arc_weight` meets its contract: its callees read what the weight is made of. Assumes nothing.
 use Prim.Native.Nat.{ℕ, ◌+◌, ◌*◌, ◌/◌, ◌≤◌, ◌<◌, ◌^◌}
 use native.Mathlib.Omega.{arith}
-use mathlib.Core.Path.{◌≡◌, refl, ◌∙◌}
+use mathlib.Core.Path.{◌≡◌, refl, ap, ◌∙◌}
 use mathlib.Core.List.{List}
 use lib.ListN.{get_or}
 use Rattle.weighing.specs.Weights.{arc_weight, Weighable}
@@ -16,11 +16,8 @@ module _ {qs ss ps cs : List ℕ} {n from : ℕ} (able : Weighable qs ss ps cs n
   unfolding arc_weight
   weighed ec et es = rw (es, et, ec, ef) ((able.from, able.to, able.positive, able.fits), refl)
 
-pub share_at-requires : goal.share_at-requires
-share_at-requires c = within c.requires c.position_of-at.ensures
-
 pub arc-requires : goal.arc-requires
-arc-requires c = (weighed c.requires c.position_of-at.ensures c.child_of.ensures c.position_of-to.ensures c.share_at.ensures).0
+arc-requires c = (weighed c.requires c.position_of-at.ensures c.child_of.ensures c.position_of-to.ensures (ap (λ (i : ℕ). get_or c.args.shares.now i 0) c.number.ensures)).0
 
 pub returns : goal.returns
-returns c = c.arc.ensures ∙ (weighed c.requires c.position_of-at.ensures c.child_of.ensures c.position_of-to.ensures c.share_at.ensures).1
+returns c = c.arc.ensures ∙ (weighed c.requires c.position_of-at.ensures c.child_of.ensures c.position_of-to.ensures (ap (λ (i : ℕ). get_or c.args.shares.now i 0) c.number.ensures)).1

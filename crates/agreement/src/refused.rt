@@ -1,0 +1,17 @@
+use counter::Refusal;
+
+// A refusal as the papers have it: the number of the check, and the place of the fault, 0 where there is none.
+#[derive(Clone, Copy, PartialEq, Eq)]
+pub struct Refused {
+    pub number: usize,
+    pub place: usize,
+}
+
+impl From<Refusal> for Refused {
+    fn from(of: Refusal) -> Refused {
+        Refused {
+            number: of.check as usize,
+            place: of.place.unwrap_or(0) as usize,
+        }
+    }
+}

@@ -1,9 +1,0 @@
--- `counter_plans::plans::marks_of` is safe and ends: its loop counts `c` up to 20. Assumes nothing.
-use Prim.Native.Nat.{◌-◌}
-use Rattle.counter_plans.proofs.plans.marks_of.Given as goal
-
-abbrev pub invariant-loop-c : goal.invariant-loop-c
-invariant-loop-c l = Unit
-
-abbrev pub decreases-loop-c : goal.decreases-loop-c
-decreases-loop-c l = 20 - l.c

@@ -1,9 +1,0 @@
--- `counter_plans::plans::passing` is safe and ends: its loop counts `full` up to `end`. Assumes nothing.
-use Prim.Native.Nat.{◌-◌}
-use Rattle.counter_plans.proofs.plans.passing.Given as goal
-
-abbrev pub invariant-loop-full : goal.invariant-loop-full
-invariant-loop-full l = Unit
-
-abbrev pub decreases-loop-full : goal.decreases-loop-full
-decreases-loop-full l = l.end - l.full

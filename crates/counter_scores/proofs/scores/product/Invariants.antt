@@ -1,9 +1,0 @@
--- `counter_scores::scores::product` is safe and ends: its loop counts `v` up to `end`. Assumes nothing.
-use Prim.Native.Nat.{◌-◌}
-use Rattle.counter_scores.proofs.scores.product.Given as goal
-
-abbrev pub invariant-loop-v : goal.invariant-loop-v
-invariant-loop-v l = Unit
-
-abbrev pub decreases-loop-v : goal.decreases-loop-v
-decreases-loop-v l = l.end - l.v

@@ -1,9 +1,0 @@
--- `counter_scores::table::total_reward` is safe and ends: its loop counts `i` up to `end`. Assumes nothing.
-use Prim.Native.Nat.{◌-◌}
-use Rattle.counter_scores.proofs.table.total_reward.Given as goal
-
-abbrev pub invariant-loop-i : goal.invariant-loop-i
-invariant-loop-i l = Unit
-
-abbrev pub decreases-loop-i : goal.decreases-loop-i
-decreases-loop-i l = l.end - l.i

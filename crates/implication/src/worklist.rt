@@ -1,0 +1,85 @@
+// The pairs of nodes that check 18 comes to.
+ghost use Rattle.std.specs.Prelude.{◌≡◌, ℕ, suc, ◌+◌, ◌-◌, length, replicate, eqb, Some, None, MatchOption};
+ghost use Rattle.implication.specs.Nodes.{is_known, cell, Met, Room, pushed, no_pair, first_at, second_at};
+
+use terms::Node;
+
+// Two nodes, of which the first may imply the second.
+#[derive(Clone, Copy)]
+pub struct Pair {
+    pub first: Node,
+    pub second: Node,
+}
+
+// The pairs that have been met, as bits, 256 for each first node, and those of them that are still to be expanded, on a stack.
+#[derive(Drop)]
+pub struct Worklist {
+    pub met: [u64; 1024],
+    pub stack: [Pair; 64],
+    pub depth: usize,
+}
+
+impl Worklist {
+    // Nothing has been met.
+    pub(crate) fn new() -> Worklist
+        ensures met { result.met ≡ replicate 1024 0 }
+        ensures stack { length result.stack ≡ 64 }
+        ensures depth { result.depth ≡ 0 }
+    {
+        let ends = Pair {
+            first: Node::new(0),
+            second: Node::new(0),
+        };
+        Worklist {
+            met: [0; 1024],
+            stack: [ends; 64],
+            depth: 0,
+        }
+    }
+
+    // Takes the pair on top off the stack, if there is one.
+    pub(crate) fn pop(&mut self) -> Option<Pair>
+        requires { Room self.old.met self.old.stack self.old.depth }
+        ensures kept { (self.new.met ≡ self.old.met) × (self.new.stack ≡ self.old.stack) }
+        ensures top { MatchOption result ((self.old.depth ≡ 0) × (self.new.depth ≡ 0)) (λ p. (self.old.depth ≡ suc self.new.depth) × (p.first.0 ≡ first_at self.old.stack self.new.depth) × (p.second.0 ≡ second_at self.old.stack self.new.depth)) }
+    {
+        if self.depth == 0 {
+            return None;
+        }
+        self.depth -= 1;
+        Some(self.stack[self.depth])
+    }
+
+    // Puts a pair on top of the stack, unless it is known to imply or has been met before.
+    pub(crate) fn meet(&mut self, m: Node, n: Node)
+        requires { Room self.old.met self.old.stack self.old.depth }
+        ensures depth { self.new.depth ≡ self.old.depth + (1 - cell self.old.met m.0 n.0) }
+        ensures met { Met self.old.met self.new.met m.0 n.0 }
+        ensures stack { self.new.stack ≡ pushed (cell self.old.met m.0 n.0) self.old.stack self.old.depth m.0 n.0 }
+    {
+        if self.has_met(m, n) {
+            return;
+        }
+        self.stack[self.depth] = Pair {
+            first: m,
+            second: n,
+        };
+        self.depth += 1;
+        self.met[m.number() * 4 + n.number() / 64] |= 1 << (n.number() % 64);
+    }
+
+    // Whether a pair is known to imply at once or its bit says that it has been met.
+    pub(crate) fn has_met(&self, m: Node, n: Node) -> bool
+        ensures { result ≡ eqb (cell self.now.met m.0 n.0) 1 }
+    {
+        is_known(m, n) || (self.met[m.number() * 4 + n.number() / 64] >> (n.number() % 64)) % 2 == 1
+    }
+}
+
+// Whether a pair is known to imply at once: false implies every node, every node implies true, and each itself.
+#[tactic(auto, unfolding(crate::specs::Nodes::is_known))]
+fn is_known(m: Node, n: Node) -> bool
+    ensures { result ≡ is_known m.0 n.0 }
+{
+    m.number() == 0 || n.number() == 1 || m == n
+}

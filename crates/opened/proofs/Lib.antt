@@ -1,2 +1,0 @@
--- Laws of openings.
-pub mod Openings

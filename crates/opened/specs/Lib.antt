@@ -1,2 +1,0 @@
--- What an opened table stands for.
-pub mod Answer

@@ -1,0 +1,2 @@
+-- What is found for a job, as text.
+pub mod Found
