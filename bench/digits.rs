@@ -5,34 +5,39 @@ use std::io::Write;
 use crate::tables::Random;
 use crate::timing::processor_time;
 
-/// `put_decimal` of the crate writing, which `run.sh` has marked as exported: a buffer and its length, a place and a number.
-/// It answers the place after the text, and asks for 20 places.
-type PutDecimal = unsafe extern "C" fn(*mut u8, usize, usize, u64) -> usize;
+/// A text as the crate writing has it, of which the first `count` bytes are written.
+#[repr(C)]
+struct Text {
+    bytes: [u8; 1024],
+    count: usize,
+}
+
+/// `put_number` of the crate that `run.sh` makes over writing. It asks for 20 places.
+type PutNumber = unsafe extern "C" fn(&mut Text, u64);
 
 unsafe extern "C" {
-    fn library_decimal(out: *mut u8, length: usize, at: usize, n: u64) -> usize;
+    fn library_number(text: &mut Text, n: u64);
     #[cfg(before)]
-    fn before_decimal(out: *mut u8, length: usize, at: usize, n: u64) -> usize;
+    fn before_number(text: &mut Text, n: u64);
 }
 
-extern "C" fn plain_decimal(out: *mut u8, length: usize, at: usize, n: u64) -> usize {
-    let out = unsafe { std::slice::from_raw_parts_mut(out, length) };
-    let mut left = &mut out[at..];
+extern "C" fn plain_number(text: &mut Text, n: u64) {
+    let mut left = &mut text.bytes[text.count..];
     let before = left.len();
     write!(left, "{n}").unwrap();
-    at + before - left.len()
+    text.count += before - left.len();
 }
 
-const PROGRAMS: &[PutDecimal] = &[
-    library_decimal,
+const PROGRAMS: &[PutNumber] = &[
+    library_number,
     #[cfg(before)]
-    before_decimal,
-    plain_decimal,
+    before_number,
+    plain_number,
 ];
 
-fn put(program: PutDecimal, out: &mut [u8], at: usize, n: u64) -> usize {
-    assert!(at + 20 <= out.len());
-    unsafe { program(out.as_mut_ptr(), out.len(), at, n) }
+fn put(program: PutNumber, text: &mut Text, n: u64) {
+    assert!(text.count + 20 <= text.bytes.len());
+    unsafe { program(text, n) }
 }
 
 /// The powers of ten and of two with their neighbours, and made numbers of every length.
@@ -44,17 +49,18 @@ fn numbers() -> Vec<u64> {
     numbers
 }
 
-/// Each text of each program at its place, with all else in the buffer as it was. How many numbers were written.
+/// Each text of each program at its place, with all other bytes as they were. How many numbers were written.
 pub fn compare() -> usize {
     let numbers = numbers();
     for &n in &numbers {
-        let (at, text) = (n as usize % 5, n.to_string());
-        let mut expected = [b'#'; 25];
-        expected[at..at + text.len()].copy_from_slice(text.as_bytes());
+        let (at, digits) = (n as usize % 5, n.to_string());
+        let mut expected = [b'#'; 1024];
+        expected[at..at + digits.len()].copy_from_slice(digits.as_bytes());
         for &program in PROGRAMS {
-            let mut out = [b'#'; 25];
-            assert_eq!(put(program, &mut out, at, n), at + text.len());
-            assert_eq!(out, expected);
+            let mut text = Text { bytes: [b'#'; 1024], count: at };
+            put(program, &mut text, n);
+            assert_eq!(text.count, at + digits.len());
+            assert_eq!(text.bytes, expected);
         }
     }
     numbers.len()
@@ -63,12 +69,13 @@ pub fn compare() -> usize {
 /// Nanoseconds of a number for each program: the least of 200 rounds, in each of which every program has its turn of 10,000.
 fn times(n: u64) -> [f64; PROGRAMS.len()] {
     let mut least = [f64::INFINITY; PROGRAMS.len()];
-    let mut out = [0; 32];
+    let mut text = Text { bytes: [0; 1024], count: 0 };
     for _ in 0..200 {
         for (least, &program) in least.iter_mut().zip(PROGRAMS) {
             let start = processor_time();
             for _ in 0..10_000 {
-                black_box(put(program, black_box(&mut out), 3, black_box(n)));
+                text.count = 3;
+                put(program, black_box(&mut text), black_box(n));
             }
             *least = least.min((processor_time() - start).as_nanos() as f64 / 10_000.0);
         }

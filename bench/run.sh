@@ -1,5 +1,5 @@
 #!/bin/sh
-# Proves the crates export_c and writing and makes their static libraries, builds the benchmark over them, and runs it.
+# Proves the crate export_c and the printer's numbers and makes static libraries of both, builds the benchmark over them, and runs it.
 # bench/run.sh [--before COMMIT] [REQUESTS]: a commit's libraries are made too, and timed beside the others; the number is that of the requests
 # to compare.
 set -eu
@@ -8,13 +8,19 @@ out=target/bench
 mkdir -p $out
 set -- "$@" ''
 
-# printer TREE NAME: the printer's `put_decimal` as NAME_decimal. No crate exports it: in a tree that is a copy it is marked as exported, and
-# its crate, writing, proved again and made a static library.
+# printer TREE NAME: the printer's number as NAME_number. No crate exports it: a tree that is a copy gets a static library `printer` over its crate
+# writing, whose text is laid out as C does.
 printer() {
-    sed -i 's/^pub fn put_decimal/#[unsafe(no_mangle)]\npub extern "C" fn put_decimal/' "$1/crates/writing/src/decimal.rt"
-    sed -i 's/^writing:/writing staticlib:/' "$1/crates.txt"
-    (cd "$1/crates/writing" && rt lib >/dev/null)
-    objcopy --redefine-sym put_decimal="$2_decimal" "$1/crates/writing/out/libwriting.a" "$out/lib$2_printer.a"
+    mkdir -p "$1/crates/printer/src"
+    if grep -qr 'fn put_decimal' "$1/crates/writing/src"; then
+        cp bench/printer_before.rt.txt "$1/crates/printer/src/lib.rt"
+    else
+        cp bench/printer.rt.txt "$1/crates/printer/src/lib.rt"
+        sed -i 's/^pub struct Text /#[repr(C)]\n&/' "$1/crates/writing/src/text.rt"
+    fi
+    echo 'printer staticlib: diagram writing' >>"$1/crates.txt"
+    (cd "$1/crates/printer" && rt lib >/dev/null)
+    objcopy --redefine-sym put_number="$2_number" "$1/crates/printer/out/libprinter.a" "$out/lib$2_printer.a"
 }
 
 # placed ARCHIVE NAME ARRAY: the library four times, as NAME0 to NAME3, each 16 bytes further in a line of 64, since a time hangs on where a loop stands in

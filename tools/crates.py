@@ -7,7 +7,7 @@ import os
 import re
 import sys
 
-KIT = ['bytes', 'check', 'io', 'os', 'libc']
+KIT = ['arrayvec', 'bytes', 'check', 'io', 'os', 'libc']
 HEAD = '''# NAME: the crates it stands on. By level, one above the highest that it stands on; the crates of a level are proved two at a time, in this order, so
 # that those that take about as long stand beside each other (tools/crates.py). README.md has the map.
 

@@ -4,7 +4,7 @@ use crate::service::Service;
 use std::fmt;
 
 // Of a service's requests: how many were tried, how many of these agree, and how many of these are answered and not refused.
-#[derive(Clone, Copy)]
+#[derive(Clone, Copy, Default)]
 struct Counts {
     tried: usize,
     agreed: usize,
@@ -13,7 +13,7 @@ struct Counts {
 
 // The counts of each service; for each number the requests that both refuse with it; and how many differ, with the first of these by
 // service and table.
-#[derive(Clone, Copy)]
+#[derive(Clone, Copy, Default)]
 pub struct Tally {
     services: [Counts; 5],
     refused: [usize; 33],
@@ -22,20 +22,6 @@ pub struct Tally {
 }
 
 impl Tally {
-    pub fn new() -> Tally {
-        let none = Counts {
-            tried: 0,
-            agreed: 0,
-            answered: 0,
-        };
-        Tally {
-            services: [none; 5],
-            refused: [0; 33],
-            differ: 0,
-            first: [None; 8],
-        }
-    }
-
     // Counts one request to a service, on a table, with the planner's answer and the counter's.
     pub fn count<T: PartialEq + Copy>(
         &mut self,

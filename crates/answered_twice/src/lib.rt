@@ -16,13 +16,13 @@ pub struct Asked {
 }
 
 pub fn read_twice(tally: &mut Tally, table: usize, file: &[u8]) {
-    let ours = reading::read(file).map(summary).map_err(refused);
+    let ours = reading::read(file).map(summary).map_err(Refused::from);
     let theirs = counter::read(file).map_err(Refused::from);
     tally.count(Service::Read, table, ours, theirs, true);
 }
 
 pub fn score_twice(tally: &mut Tally, table: usize, file: &[u8], plan: &[u8]) {
-    let ours = scoring::score(file, plan).map_err(refused);
+    let ours = scoring::score(file, plan).map_err(Refused::from);
     let theirs = counter::score(file, plan).map_err(Refused::from);
     tally.count(Service::Score, table, ours, theirs, true);
 }
@@ -33,7 +33,7 @@ pub fn sweep_twice(tally: &mut Tally, asked: Asked, file: &[u8], plan: &[u8]) {
         Service::Sweep,
         asked,
         [u64::MAX; 24],
-        |drops| sweep::sweep(file, plan, drops).map_err(refused),
+        |drops| sweep::sweep(file, plan, drops).map_err(Refused::from),
         |drops| counter::sweep(file, plan, drops).map_err(Refused::from),
     );
 }
@@ -47,7 +47,7 @@ pub fn filter_twice(tally: &mut Tally, asked: Asked, file: &[u8], plan: &[u8]) {
         [7; 32],
         |out| filtering::filter(file, plan, percent, out)
             .map(|n| n as u64)
-            .map_err(refused),
+            .map_err(Refused::from),
         |out| counter::filter(file, plan, percent, out).map_err(Refused::from),
     );
 }
@@ -61,7 +61,7 @@ pub fn search_twice(tally: &mut Tally, asked: Asked, file: &[u8], plan: &[u8]) {
         [7; 32],
         |out| search::search(file, plan, kits, percent, out)
             .map(finding)
-            .map_err(refused),
+            .map_err(Refused::from),
         |out| counter::search(file, plan, kits, percent, out).map_err(Refused::from),
     );
 }
@@ -104,12 +104,5 @@ fn finding(of: Finding) -> Found {
     Found {
         score: of.score,
         visits: of.visits,
-    }
-}
-
-fn refused(of: terms::Refusal) -> Refused {
-    Refused {
-        number: usize::from(u8::from(of.reason)),
-        place: of.place,
     }
 }

@@ -3,48 +3,47 @@
 
 use reading::Summary;
 use search::Finding;
-use std::fmt::Display;
-use std::io;
+use std::{fmt, io};
 use terms::Refusal;
 
+// What a service answers: V, N, the number of choices and B of a table; a score; a top; how many lines are forced; what a search finds.
+#[derive(Clone, Copy)]
+pub enum Answer {
+    Table(Summary),
+    Score(u64),
+    Top(u64),
+    Forced(usize),
+    Found(Finding),
+}
+
+impl fmt::Display for Answer {
+    fn fmt<W: fmt::Write>(&self, f: &mut fmt::Formatter<W>) -> fmt::Result {
+        match self {
+            Answer::Table(t) => write!(
+                f,
+                "table {} {} {} {}",
+                t.variables, t.records, t.choices, t.scale
+            ),
+            Answer::Score(score) => write!(f, "score {score}"),
+            Answer::Top(top) => write!(f, "top {top}"),
+            Answer::Forced(count) => write!(f, "forced {count}"),
+            Answer::Found(found) => write!(f, "score {} visits {}", found.score, found.visits),
+        }
+    }
+}
+
 // Values, each after a space.
-pub fn show_each<T: Display>(rt: &impl Print, xs: &[T]) -> io::Result<()> {
+pub fn show_each<T: fmt::Display>(rt: &impl Print, xs: &[T]) -> io::Result<()> {
     for x in xs {
         print!(rt; " {x}")?;
     }
     Ok(())
 }
 
-// V, N, the number of choices and B of a table.
-pub fn show_reading(rt: &impl Print, answer: Result<Summary, Refusal>) -> io::Result<()> {
+// An answer, or the reason and the place of a refusal.
+pub fn show(rt: &impl Print, answer: Result<Answer, Refusal>) -> io::Result<()> {
     match answer {
-        Ok(t) => print!(rt;
-            " table {} {} {} {}",
-            t.variables, t.records, t.choices, t.scale
-        ),
-        Err(r) => show_refusal(rt, r),
+        Ok(answer) => print!(rt; " {answer}"),
+        Err(r) => print!(rt; " refused {} {}", u8::from(r.reason), r.place),
     }
-}
-
-// A value by its name: a score, a top, or how many lines are forced.
-pub fn show_value<T: Display + Drop>(
-    rt: &impl Print,
-    name: &str,
-    answer: Result<T, Refusal>,
-) -> io::Result<()> {
-    match answer {
-        Ok(value) => print!(rt; " {name} {value}"),
-        Err(r) => show_refusal(rt, r),
-    }
-}
-
-pub fn show_search(rt: &impl Print, answer: Result<Finding, Refusal>) -> io::Result<()> {
-    match answer {
-        Ok(found) => print!(rt; " score {} visits {}", found.score, found.visits),
-        Err(r) => show_refusal(rt, r),
-    }
-}
-
-fn show_refusal(rt: &impl Print, refusal: Refusal) -> io::Result<()> {
-    print!(rt; " refused {} {}", u8::from(refusal.reason), refusal.place)
 }

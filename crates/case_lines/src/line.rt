@@ -2,7 +2,7 @@
 ghost use Rattle.std.specs.Prelude.{◌≡◌, ◌↔◌, IsTrue};
 ghost use Rattle.case_lines.specs.declared.line.Part.TheVariants.{Label};
 
-use crate::buffer::Buffer;
+use arrayvec::ArrayVec;
 
 // What the next byte of a line belongs to.
 #[derive(Clone, Copy, PartialEq, Eq)]
@@ -16,15 +16,16 @@ enum Part {
     Kits,
 }
 
-// A line of the input, as far as it has come: the letter of the service, the bytes of the file, the marks of the plan, and the numbers.
+// A line of the input, as far as it has come: the letter of the service, the bytes of the file and the marks of the plan, as many as there
+// is room for, and the numbers.
 #[derive(Drop)]
 pub struct Line {
     part: Part,
     pub service: u8,
-    pub file: Buffer<1400>,
+    file: ArrayVec<u8, 1400>,
     // The upper half of the file's next byte.
     half: Option<u8>,
-    pub plan: Buffer<40>,
+    plan: ArrayVec<u8, 40>,
     pub size: u32,
     pub percent: u32,
     pub kits: u32,
@@ -35,13 +36,27 @@ impl Line {
         Line {
             part: Part::Label,
             service: 0,
-            file: Buffer::new(),
+            file: ArrayVec::new(),
             half: None,
-            plan: Buffer::new(),
+            plan: ArrayVec::new(),
             size: 0,
             percent: 0,
             kits: 0,
         }
+    }
+
+    // The bytes of the file that have come.
+    pub fn file(&self) -> &[u8]
+        ensures { result.now ≡ self.now.file.items }
+    {
+        self.file.as_slice()
+    }
+
+    // The marks of the plan that have come.
+    pub fn plan(&self) -> &[u8]
+        ensures { result.now ≡ self.now.plan.items }
+    {
+        self.plan.as_slice()
     }
 
     // Whether the label has not ended yet.
@@ -75,7 +90,7 @@ impl Line {
         } else if let Some(lower) = digit(b) {
             match self.half {
                 Some(upper) => {
-                    self.file.push(upper << 4 | lower);
+                    let _ = self.file.try_push(upper << 4 | lower);
                     self.half = None;
                 }
                 None => self.half = Some(lower),
@@ -88,7 +103,7 @@ impl Line {
         if b == b'|' {
             self.part = Part::Size;
         } else if let Some(mark) = digit(b) {
-            self.plan.push(mark);
+            let _ = self.plan.try_push(mark);
         }
     }
 

@@ -1,7 +1,8 @@
 // The services asked for a line of the program `cases`, each on the buffer that the line lends.
 #![tactic(auto)]
 
-use case_answers::{show_each, show_reading, show_search, show_value};
+use case_answers::Answer::{Forced, Found, Score, Table, Top};
+use case_answers::{Answer, show, show_each};
 use case_lines::Line;
 use filtering::filter;
 use opened_requests::{
@@ -13,52 +14,45 @@ use search::search;
 use std::fmt::Display;
 use std::io;
 use sweep::sweep;
+use terms::Refusal;
 
 // Runs a service, and writes what it answers.
 pub fn run(rt: &impl Print, line: &Line) -> io::Result<()> {
-    let file = line.file.as_slice();
-    let plan = line.plan.as_slice();
+    let file = line.file();
+    let plan = line.plan();
     let kits = line.kits;
     let percent = line.percent;
     match line.service {
-        b'r' => show_reading(rt, read(file))?,
-        b's' => show_value(rt, "score", score(file, plan))?,
-        b'w' => lend_drops(
-            rt,
-            line,
-            |out| show_value(rt, "top", sweep(file, plan, out)),
-        )?,
-        b'f' => lend_plan(
-            rt,
-            line,
-            |out| show_value(rt, "forced", filter(file, plan, percent, out)),
-        )?,
+        b'r' => show(rt, read(file).map(Table))?,
+        b's' => show(rt, score(file, plan).map(Score))?,
+        b'w' => lend_drops(rt, line, |out| sweep(file, plan, out).map(Top))?,
+        b'f' => lend_plan(rt, line, |out| filter(file, plan, percent, out).map(Forced))?,
         b'p' => lend_plan(
             rt,
             line,
-            |out| show_search(rt, search(file, plan, kits, percent, out)),
+            |out| search(file, plan, kits, percent, out).map(Found),
         )?,
         b'j' => run_job(rt, file)?,
-        b'R' => show_reading(rt, open_and_read(file))?,
-        b'S' => show_value(rt, "score", open_and_score(file, plan))?,
-        b'W' => lend_drops(
+        b'R' => show(rt, open_and_read(file).map(Table))?,
+        b'S' => show(rt, open_and_score(file, plan).map(Score))?,
+        b'W' => lend_drops(rt, line, |out| open_and_sweep(file, plan, out).map(Top))?,
+        b'F' => lend_plan(
             rt,
             line,
-            |out| show_value(rt, "top", open_and_sweep(file, plan, out)),
+            |out| open_and_filter(file, plan, percent, out).map(Forced),
         )?,
-        b'F' => lend_plan(rt, line, |out| {
-            show_value(rt, "forced", open_and_filter(file, plan, percent, out))
-        })?,
-        b'P' => lend_plan(rt, line, |out| {
-            show_search(rt, open_and_search(file, plan, kits, percent, out))
-        })?,
+        b'P' => lend_plan(
+            rt,
+            line,
+            |out| open_and_search(file, plan, kits, percent, out).map(Found),
+        )?,
         _ => print!(rt; " no such service")?,
     }
     println!(rt)
 }
 
-// Lends a buffer for drops, of the size that a line says, and writes what is left in it.
-fn lend_drops<F: FnOnce(&mut [u64]) -> io::Result<()>>(
+// Lends a buffer for drops, of the size that a line says.
+fn lend_drops<F: FnOnce(&mut [u64]) -> Result<Answer, Refusal>>(
     rt: &impl Print,
     line: &Line,
     ask: F,
@@ -68,8 +62,8 @@ fn lend_drops<F: FnOnce(&mut [u64]) -> io::Result<()>>(
     lend(rt, &mut [7; 24], line.size, "drops", ask)
 }
 
-// Lends a buffer for marks, of the size that a line says, and writes what is left in it.
-fn lend_plan<F: FnOnce(&mut [u8]) -> io::Result<()>>(
+// Lends a buffer for marks, of the size that a line says.
+fn lend_plan<F: FnOnce(&mut [u8]) -> Result<Answer, Refusal>>(
     rt: &impl Print,
     line: &Line,
     ask: F,
@@ -79,8 +73,8 @@ fn lend_plan<F: FnOnce(&mut [u8]) -> io::Result<()>>(
     lend(rt, &mut [7; 24], line.size, "plan", ask)
 }
 
-// Lends the front of a room, at most all of it, and writes what is left in it.
-fn lend<T: Display, F: FnOnce(&mut [T]) -> io::Result<()>>(
+// Lends the front of a room, at most all of it, and writes what is answered and what is left in it.
+fn lend<T: Display, F: FnOnce(&mut [T]) -> Result<Answer, Refusal>>(
     rt: &impl Print,
     room: &mut [T],
     size: u32,
@@ -91,7 +85,8 @@ fn lend<T: Display, F: FnOnce(&mut [T]) -> io::Result<()>>(
 {
     let n = room.len().min(size as usize);
     let lent = &mut room[..n];
-    ask(lent)?;
+    let answer = ask(lent);
+    show(rt, answer)?;
     print!(rt; ", {name}")?;
     show_each(rt, lent)
 }

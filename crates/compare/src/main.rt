@@ -15,7 +15,7 @@ use std::io;
 const TABLES: usize = 10000;
 
 fn main(rt: HostRuntime) -> io::Result<()> {
-    let mut tally = Tally::new();
+    let mut tally = Tally::default();
     for seed in 0..TABLES {
         on_table(&mut tally, seed);
     }

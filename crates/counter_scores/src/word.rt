@@ -17,16 +17,21 @@ pub enum Kind {
     Root,
 }
 
-impl Kind {
-    // The kind with a number, if one has it.
-    fn numbered(number: u32) -> Option<Kind> {
+// A number that no kind has.
+#[derive(Clone, Copy)]
+pub struct UnknownKind(pub u32);
+
+impl TryFrom<u32> for Kind {
+    type Error = UnknownKind;
+
+    fn try_from(number: u32) -> Result<Kind, UnknownKind> {
         match number {
-            1 => Some(Kind::Heading),
-            2 => Some(Kind::Choice),
-            3 => Some(Kind::Chance),
-            4 => Some(Kind::Record),
-            6 => Some(Kind::Root),
-            _ => None,
+            1 => Ok(Kind::Heading),
+            2 => Ok(Kind::Choice),
+            3 => Ok(Kind::Chance),
+            4 => Ok(Kind::Record),
+            6 => Ok(Kind::Root),
+            _ => Err(UnknownKind(number)),
         }
     }
 }
@@ -40,7 +45,7 @@ impl Word {
 impl From<u32> for Word {
     fn from(raw: u32) -> Word {
         Word {
-            kind: Kind::numbered(raw >> 28),
+            kind: Kind::try_from(raw >> 28).ok(),
             p: u64::from((raw >> 22) % 64),
             q: u64::from((raw >> 11) % 2048),
             r: u64::from(raw % 2048),

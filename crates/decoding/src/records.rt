@@ -1,5 +1,5 @@
 // The records of a table in arrays by node number, one for each part of a record.
-ghost use Rattle.std.specs.Prelude.{◌≡◌, ◌+◌, ◌≤◌, ◌<◌, length, get_or, set, take, replicate};
+ghost use Rattle.std.specs.Prelude.{◌≡◌, ◌+◌, ◌≤◌, ◌<◌, length, get_or, set, take};
 ghost use Rattle.diagram.specs.Table.{table_of, variable_count};
 ghost use Rattle.decoding.specs.Nodes.{position_column, high_column, low_column, Shaped};
 ghost use Rattle.decoding.specs.Decoding.{pad_to};
@@ -7,28 +7,36 @@ ghost use Rattle.decoding.specs.Decoding.{pad_to};
 use crate::heading::{record_count, variable_count};
 use terms::{Node, Position, field_p, field_q, field_r, word_at};
 
-// Copies the records of a file that the checks 12 and 17 let through to arrays by node number, which hold zeros, and marks the ends'
-// position.
-pub(crate) fn copy_records(
-    file: &[u8],
-    positions: &mut [u8; 256],
-    high: &mut [u8; 256],
-    low: &mut [u8; 256],
-)
-    requires shaped { Shaped file.now }
-    requires zeros { (positions.old ≡ replicate 256 0) × (high.old ≡ replicate 256 0) × (low.old ≡ replicate 256 0) }
-    ensures positions { positions.new ≡ position_column (variable_count file.now) (table_of file.now).records }
-    ensures high { high.new ≡ high_column (table_of file.now).records }
-    ensures low { low.new ≡ low_column (table_of file.now).records }
+// By node number, the position and the two children of each node, the ends first; the cells after the last record are 0.
+#[derive(Clone, Copy)]
+pub(crate) struct Columns {
+    pub positions: [u8; 256],
+    pub high: [u8; 256],
+    pub low: [u8; 256],
+}
+
+// The records of a file that the checks 12 and 17 let through.
+pub(crate) fn records_of(file: &[u8]) -> Columns
+    requires { Shaped file.now }
+    ensures positions { result.positions ≡ position_column (variable_count file.now) (table_of file.now).records }
+    ensures high { result.high ≡ high_column (table_of file.now).records }
+    ensures low { result.low ≡ low_column (table_of file.now).records }
 {
     let v = variable_count(file);
-    positions[..2].fill(v);
+    let mut columns = Columns {
+        positions: [0; 256],
+        high: [0; 256],
+        low: [0; 256],
+    };
+    columns.positions[0] = v;
+    columns.positions[1] = v;
     for k in 0..record_count(file) {
         let w = word_at(file, 1 + usize::from(v) + k);
-        store(positions, k, field_p(w));
-        store(high, k, field_q(w));
-        store(low, k, field_r(w));
+        store(&mut columns.positions, k, field_p(w));
+        store(&mut columns.high, k, field_q(w));
+        store(&mut columns.low, k, field_r(w));
     }
+    columns
 }
 
 // Writes the cell of record k's node. Whoever calls has one of at most 254 records, and a position, or a child that check 17 has

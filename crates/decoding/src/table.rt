@@ -10,7 +10,7 @@ ghost use Rattle.decoding.specs.Decoding.{pad_to, table_in, Held};
 
 use crate::choices::{Choices, choices_of};
 use crate::heading::{record_count, variable_count};
-use crate::records::copy_records;
+use crate::records::{Columns, records_of};
 use crate::roots::{RootEntries, roots_of};
 use crate::variables::words_of;
 
@@ -47,13 +47,18 @@ pub fn decode(file: &[u8], scale: u64) -> Decoded
         positions: choice_positions,
         kits,
     } = choices_of(file);
+    let Columns {
+        positions,
+        high,
+        low,
+    } = records_of(file);
     let RootEntries {
         count: roots,
         nodes,
         rewards,
     } = roots_of(file);
     let words = words_of(file);
-    let mut table = Decoded {
+    Decoded {
         variables: variable_count(file),
         records: record_count(file),
         choices,
@@ -61,13 +66,11 @@ pub fn decode(file: &[u8], scale: u64) -> Decoded
         words,
         choice_positions,
         kits,
-        positions: [0; 256],
-        high: [0; 256],
-        low: [0; 256],
+        positions,
+        high,
+        low,
         roots,
         nodes,
         rewards,
-    };
-    copy_records(file, &mut table.positions, &mut table.high, &mut table.low);
-    table
+    }
 }

@@ -5,6 +5,7 @@ use Rattle.diagram.specs.Plans.{open_taken, derivative}
 use Rattle.weighing.specs.Value.{variable_at}
 use Rattle.decoding.specs.declared.table.Decoded.{Decoded}
 use Rattle.valuing.specs.Passes.{record_loss, losses_of}
+use Rattle.valuing.specs.declared.bound.PlanValue.{PlanValue}
 
 -- ---------------------------------------------------------------------------
 -- The loss of a record
@@ -19,9 +20,9 @@ pub record Lossy : Type 0 where
 abbrev pub lossy : (positions marks losses paths : List ℕ) → Lossy
 lossy ps ms ls ds = record { positions = ps; marks = ms; losses = ls; paths = ds }
 
--- Those of a decoded table, its losses made from the weights of its arcs and the values of its nodes
-abbrev pub lossy_of : Decoded → (marks arcs values paths : List ℕ) → Lossy
-lossy_of d ms ws vs ds = lossy d.positions ms (losses_of d.low ws vs d.records) ds
+-- Those of a decoded table and a plan's value, the losses made from the weights of the table's arcs and the values of its nodes
+abbrev pub lossy_of : Decoded → PlanValue → (paths : List ℕ) → Lossy
+lossy_of d r ds = lossy d.positions r.marks (losses_of d.low r.arcs r.values d.records) ds
 
 -- What leaving its line would lose at record k: the node's path weight, times what is lost of its value
 unfoldable pub loss_at : Lossy → (k : ℕ) → ℕ

@@ -12,10 +12,10 @@ use weighing::Roots;
 // Hands the path weights of the first n records' nodes on to their children, the last one first, along the arcs in force. Those to
 // begin with may be any that stay within their budget. `two_passes` begins with what comes to an accepted table's roots: times the
 // product of b from each node's position on it comes to B, which is at most 2^56.
-pub fn pass_down<'a>(
+pub fn pass_down(
     n: usize,
-    high: &'a [u8; 256],
-    low: &'a [u8; 256],
+    high: &[u8; 256],
+    low: &[u8; 256],
     weights: &[u64; 544],
     paths: &mut [u64; 256],
 )

@@ -1,46 +1,32 @@
 // The drops, summed up from the losses of the nodes and their path weights.
-ghost use Rattle.std.specs.Prelude.{◌≡◌, ℕ, ◌+◌, ◌≤◌, ◌<◌, ◌^◌, length, get_or, set, replicate};
+ghost use Rattle.std.specs.Prelude.{◌≡◌, ℕ, ◌+◌, ◌≤◌, ◌<◌, length, get_or, replicate};
 ghost use Rattle.diagram.specs.Table.{sequence};
 ghost use Rattle.arrays.specs.Arrays.{over};
 ghost use Rattle.valuing.specs.Passes.{LossFits};
 ghost use Rattle.derivatives.specs.Drops.{lossy_of, loss_sums, Losing};
 
 use decoding::{Decoded, position_of};
-use terms::{Node, Plan, Position};
-use valuing::{loss_of, mark_at};
+use terms::{Node, Plan};
+use valuing::{PlanValue, loss_of, mark_at};
 
 // What leaving each open line would lose, by position, and 0 at every other position: the losses of its nodes, each times the
 // node's path weight. No loss is below zero, and the sums fit: `two_passes` hands in the values and the path weights of an accepted
 // table with all open lines taken, so that each sum is a drop, and no more than the top.
-pub fn drops_by_position(
-    table: &Decoded,
-    marks: &[u8; 64],
-    arcs: &[u64; 544],
-    values: &[u64; 256],
-    paths: &[u64; 256],
-) -> [u64; 64]
-    requires losses { (k : ℕ) → k < table.now.records → LossFits table.now.low arcs.now values.now (k + 2) }
-    requires sums { Losing (lossy_of table.now marks.now arcs.now values.now paths.now) table.now.records }
-    ensures { result ≡ loss_sums (lossy_of table.now marks.now arcs.now values.now paths.now) table.now.records }
+pub fn drops_by_position(table: &Decoded, valued: &PlanValue, paths: &[u64; 256]) -> [u64; 64]
+    requires losses { (k : ℕ) → k < table.now.records → LossFits table.now.low valued.now.arcs valued.now.values (k + 2) }
+    requires sums { Losing (lossy_of table.now valued.now paths.now) table.now.records }
+    ensures { result ≡ loss_sums (lossy_of table.now valued.now paths.now) table.now.records }
 {
     let mut drops = [0; 64];
     for k in 0..table.records {
         let node = Node::of_record(k);
         let at = position_of(&table.positions, node);
-        if mark_at(marks, at) == Plan::OPEN {
-            let lost = loss_of(&table.low, arcs, values, node);
-            lose(&mut drops, at, paths[k + 2] * lost);
+        if mark_at(&valued.marks, at) == Plan::OPEN {
+            let lost = loss_of(&table.low, &valued.arcs, &valued.values, node);
+            drops[at.number()] += paths[node.number()] * lost;
         }
     }
     drops
-}
-
-// Adds to the cell of a position. The sum fits.
-fn lose(drops: &mut [u64; 64], at: Position, x: u64)
-    requires { (at.0 < 64) × (get_or drops.old at.0 0 + x < 2 ^ 64) }
-    ensures { drops.new ≡ set drops.old at.0 (get_or drops.old at.0 0 + x) }
-{
-    drops[at.number()] += x;
 }
 
 // The cells of the choices' positions, by choice number; the cells after the last choice are 0. `two_passes` hands in the choices of

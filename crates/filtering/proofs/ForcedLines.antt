@@ -8,7 +8,6 @@ use native.Mathlib.Omega.{arith}
 use mathlib.Core.Path.{◌≡◌, refl, ap, ◌∙◌}
 use mathlib.Core.Bool.{Bool, true, false, cond, not, ◌&&◌, false≢true}
 use mathlib.Core.List.{List, [], ◌∷◌, append-nil}
-use borrow.Author.Tests.{eq-eqb, ne_eqb}
 use lib.ListN.{length, get_or, set}
 use lib.Seq.{drop-length}
 use lib.Dec.{eqb, leb}
@@ -105,14 +104,6 @@ module _ (t : Table) (formed : Formed (length t.variables) t.records) (monotone 
 
 -- ---------------------------------------------------------------------------
 -- The tests of a turn
-
--- a closed line is not forced
-pub closed_line : (mark : ℕ) (fails : Bool) → (mark ≡ 0 → ⊥) → false ≡ (eqb mark 0 && fails)
-closed_line mark fails h = rw (ne_eqb mark 0 h) refl
-
--- an open line is forced when its test says so
-pub open_line_lem : (mark : ℕ) {r fails : Bool} → mark ≡ 0 → r ≡ fails → r ≡ (eqb mark 0 && fails)
-open_line_lem mark h e = rw (eq-eqb mark 0 h) e
 
 get_or-within : (p : List ℕ) (i : ℕ) → i < length p → get_or p i 0 ≡ get_or p i 1
 get_or-within [] i h = absurd (omega arith)

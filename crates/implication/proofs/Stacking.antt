@@ -18,8 +18,9 @@ use Rattle.diagram.proofs.Every.{both, and_true_both}
 use Rattle.diagram.proofs.Implication.{implies_false_end, implies_true_end, implies-same, implies-ends}
 use Rattle.decoding.specs.declared.table.Decoded.{Decoded}
 use Rattle.decoding.specs.Decoding.{table_in}
-use Rattle.implication.specs.Nodes.{records_of, end_of, Checkable, asked_node, Pairs, next, smaller, cell, AtOnce, zeros, first_at, second_at, Met, Room, pushed, no_pair, Expanded, Waits, Stack, Kept}
+use Rattle.implication.specs.Nodes.{records_of, end_of, Checkable, asked_node, Pairs, next, smaller, cell, AtOnce, zeros, first_at, second_at, Met, RoomFor, pushed, no_pair, Adds, Expanded, Waits, Stack, Kept}
 use Rattle.implication.specs.declared.worklist.Pair.{Pair}
+use Rattle.implication.specs.declared.worklist.Worklist.{Worklist}
 use Rattle.implication.proofs.Cells.{cell-le, origin-cell, only_known, zeros-marked}
 use Rattle.implication.proofs.Pairing.{Meets, next_le, next_less, next-later, next_split, position-few, held-asked}
 
@@ -82,6 +83,10 @@ pub record Meeting (met : List ℕ) (stack : List Pair) (depth m n : ℕ) (met' 
   pub end : depth' ≡ depth + (1 - cell met m n)
   pub cells : Met met met' m n
   pub pushes : stack' ≡ pushed (cell met m n) stack depth m n
+
+-- the same of two worklists
+pub meeting : {w w' : Worklist} {m n : ℕ} → m < 256 → n < 256 → Adds w w' m n → Meeting w.met w.stack w.depth m n w'.met w'.stack w'.depth
+meeting lm ln e = record { m_small = lm; n_small = ln; end = e.depth; cells = e.met; pushes = e.stack }
 
 module _ {ps hs ls met met' : List ℕ} {stack stack' : List Pair} {c d x y depth depth' m n : ℕ} (h : Stack ps hs ls met stack c d x y depth) (g : Meeting met stack depth m n met' stack' depth') where
   -- what is still to be met and what waits are as many as before
@@ -163,7 +168,7 @@ module _ {ps hs ls met met' : List ℕ} {stack stack' : List Pair} {c d x y dept
         (λ f. omega (arith, late f, position-few h.pairs m g.m_small))
         (λ f. omega arith)
 
-    roomy : Room met' stack' depth'
+    roomy : RoomFor met' stack' depth'
     roomy =
         record {
           size = g.cells.size ∙ h.room.size;
@@ -396,9 +401,10 @@ pub record Drained (d : Decoded) (met : List ℕ) (stack : List Pair) (k : ℕ) 
   pub passes : (cell met 1 0 ≡ 1 → ⊥) → (true ≡ is_monotone_at (table_in d) k) × Stack d.positions d.high d.low met stack 0 0 0 0 0
 
 -- after the pair of record k's children is met, and then all pairs of the stack and those that they lead to
-pub drained : {d : Decoded} → Checkable d → {k lo hi depth depth' : ℕ} {met met' met″ : List ℕ} {stack stack' stack″ : List Pair} → k < d.records → lo ≡ asked_node d.words d.positions d.low k → hi ≡ asked_node d.words d.positions d.high k → depth ≡ 0 → Stack d.positions d.high d.low met stack 0 0 0 0 0 → Meeting met stack depth lo hi met' stack' depth' → Kept d.positions d.high d.low met' stack' depth' met″ stack″ 0 → Drained d met″ stack″ k
-drained held {k} l elo ehi none before g kept =
-    let h = kept _ _ (ask none before g) in
+pub drained : {d : Decoded} → Checkable d → {k lo hi : ℕ} {w w' w″ : Worklist} → k < d.records → lo ≡ asked_node d.words d.positions d.low k → hi ≡ asked_node d.words d.positions d.high k → w.depth ≡ 0 → Stack d.positions d.high d.low w.met w.stack 0 0 0 0 0 → lo < 256 → hi < 256 → Adds w w' lo hi → Kept d w' w″ → w″.depth ≡ 0 → Drained d w″.met w″.stack k
+drained held {k} l elo ehi none before m_small n_small adds kept empty =
+    let g = meeting m_small n_small adds in
+    let h = rw empty at (kept _ _ (ask none before g)) in
     record {
       fault = λ e. held-asked held k l elo ehi (sym (refuted h e));
       passes = λ e. (held-asked held k l elo ehi (sym (all_imply h e _ _ g.m_small g.n_small h.asked)), idle h e);

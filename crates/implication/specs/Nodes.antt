@@ -8,6 +8,7 @@ use Rattle.diagram.specs.Validity.{Formed}
 use Rattle.decoding.specs.declared.table.Decoded.{Decoded}
 use Rattle.decoding.specs.Decoding.{table_in, Held}
 use Rattle.implication.specs.declared.worklist.Pair.{Pair}
+use Rattle.implication.specs.declared.worklist.Worklist.{Worklist}
 
 -- The records that three arrays by node number hold, with room for 254
 unfoldable pub records_of : (positions high low : List ℕ) → List Record
@@ -99,15 +100,35 @@ abbrev pub second_at : (stack : List Pair) → (j : ℕ) → ℕ
 second_at stack j = (get_or stack j no_pair).second.0
 
 -- The stack has at most 62 pairs, so that there is room for one more
-pub record Room (met : List ℕ) (stack : List Pair) (depth : ℕ) : Type 0 where
+pub record RoomFor (met : List ℕ) (stack : List Pair) (depth : ℕ) : Type 0 where
   pub size : length met ≡ 1024
   pub stack_size : length stack ≡ 64
   pub shallow : depth ≤ 62
+
+abbrev pub Room : Worklist → Type 0
+Room w = RoomFor w.met w.stack w.depth
+
+-- The worklist before its last pair was taken off, and that pair
+abbrev pub put_back : Worklist → Worklist
+put_back w = record { met = w.met; stack = w.stack; depth = suc w.depth }
+
+abbrev pub top_of : Worklist → Pair
+top_of w = get_or w.stack w.depth no_pair
+
+-- How many pairs are to be met or expanded
+abbrev pub to_do : Worklist → ℕ
+to_do w = zeros w.met + w.depth
 
 -- The stack after the pair m, n is met: it is written on top where its cell was 0
 unfoldable pub pushed : (cell : ℕ) → (stack : List Pair) → (depth m n : ℕ) → List Pair
 pushed zero stack depth m n = set stack depth (record { first = record { 0 = m }; second = record { 0 = n } })
 pushed (suc _) stack depth m n = stack
+
+-- The worklist after the pair m, n is met: it is put on top of the stack and marked where its cell was 0
+pub record Adds (old new : Worklist) (m n : ℕ) : Type 0 where
+  pub depth : new.depth ≡ old.depth + (1 - cell old.met m n)
+  pub met : Met old.met new.met m n
+  pub stack : new.stack ≡ pushed (cell old.met m n) old.stack old.depth m n
 
 -- Both pairs that m, n leads to have been met
 pub record Expanded (ps hs ls met : List ℕ) (m n : ℕ) : Type 0 where
@@ -125,7 +146,7 @@ pub record Waits (stack : List Pair) (depth m n : ℕ) : Type 0 where
 -- there is none), a pair with j others under it stands at position j - 1 or later, and all pairs met imply if the pair a, b does
 pub record Stack (ps hs ls met : List ℕ) (stack : List Pair) (a b m n depth : ℕ) : Type 0 where
   pub pairs : Pairs ps hs ls
-  pub room : Room met stack depth
+  pub room : RoomFor met stack depth
   pub asked : cell met a b ≡ 1
   pub origin : cell met 0 0 ≡ 1
   pub small : (j : ℕ) → j < depth → (first_at stack j < 256) × (second_at stack j < 256)
@@ -134,11 +155,14 @@ pub record Stack (ps hs ls met : List ℕ) (stack : List Pair) (a b m n depth : 
   pub traced : (p q : ℕ) → p < 256 → q < 256 → cell met p q ≡ 1 → AtOnce p q ⊎ (Expanded ps hs ls met p q ⊎ (Waits stack depth p q ⊎ ((p ≡ m) × (q ≡ n))))
   pub right : implies (end_of ps) (records_of ps hs ls) a b ≡ true → (p q : ℕ) → p < 256 → q < 256 → cell met p q ≡ 1 → implies (end_of ps) (records_of ps hs ls) p q ≡ true
 
--- The stack is that of some pair a, b
-abbrev pub Started : (ps hs ls met : List ℕ) → (stack : List Pair) → (depth : ℕ) → Type 0
-Started ps hs ls met stack depth = (a : ℕ) × (b : ℕ) × Stack ps hs ls met stack a b 0 0 depth
+-- The worklist's stack is that of the pair a, b, and no pair is taken off
+abbrev pub Tracks : Decoded → Worklist → (a b : ℕ) → Type 0
+Tracks t w a b = Stack t.positions t.high t.low w.met w.stack a b 0 0 w.depth
 
--- The second stack is that of the same pair a, b as the first, whichever that is
-abbrev pub Kept : (ps hs ls met : List ℕ) → (stack : List Pair) → (depth : ℕ) → (met' : List ℕ) → (stack' : List Pair) → (depth' : ℕ) → Type 0
-Kept ps hs ls met stack depth met' stack' depth' =
-    (a b : ℕ) → Stack ps hs ls met stack a b 0 0 depth → Stack ps hs ls met' stack' a b 0 0 depth'
+-- It is that of some pair
+abbrev pub Started : Decoded → Worklist → Type 0
+Started t w = (a : ℕ) × (b : ℕ) × Tracks t w a b
+
+-- The second worklist's stack is that of the same pair as the first's, whichever that is
+abbrev pub Kept : Decoded → (old new : Worklist) → Type 0
+Kept t old new = (a b : ℕ) → Tracks t old a b → Tracks t new a b

@@ -3,9 +3,9 @@
 // is put on a stack, the pair on top is taken off and the two that it leads to are put on, unless they are known to imply at once
 // or have been met, until the stack is empty, and a record is at fault where the pair of true and false is met. A pair leads to
 // pairs at later positions, so that the stack has at most two pairs more than the table has variables.
-ghost use Rattle.std.specs.Prelude.{◌≡◌, suc, ◌+◌, ◌<◌, get_or};
+ghost use Rattle.std.specs.Prelude.{◌≡◌, ◌+◌, ◌<◌, get_or};
 ghost use Rattle.decoding.specs.Decoding.{table_in};
-ghost use Rattle.implication.specs.Nodes.{Checkable, monotone_fault_in, asked_node, next, zeros, first_at, second_at, Started, Kept};
+ghost use Rattle.implication.specs.Nodes.{Checkable, monotone_fault_in, asked_node, next, to_do, put_back, top_of, Started, Kept};
 ghost use Rattle.steps.specs.Steps.{fault_of};
 
 use crate::worklist::{Pair, Worklist};
@@ -47,8 +47,8 @@ fn asked_node(t: &Decoded, children: &[u8; 256], k: usize) -> Node
 
 // Expands every pair of the stack, and those that are met on the way, until the stack is empty.
 fn drain(work: &mut Worklist, t: &Decoded)
-    requires { Started t.now.positions t.now.high t.now.low work.old.met work.old.stack work.old.depth }
-    ensures kept { Kept t.now.positions t.now.high t.now.low work.old.met work.old.stack work.old.depth work.new.met work.new.stack 0 }
+    requires { Started t.now work.old }
+    ensures kept { Kept t.now work.old work.new }
     ensures empty { work.new.depth ≡ 0 }
 {
     while let Some(top) = work.pop() {
@@ -58,11 +58,10 @@ fn drain(work: &mut Worklist, t: &Decoded)
 
 // Meets the two pairs that the pair just taken off leads to.
 fn expand(work: &mut Worklist, t: &Decoded, top: Pair)
-    requires started { Started t.now.positions t.now.high t.now.low work.old.met work.old.stack (suc work.old.depth) }
-    requires first { top.first.0 ≡ first_at work.old.stack work.old.depth }
-    requires second { top.second.0 ≡ second_at work.old.stack work.old.depth }
-    ensures stack { Kept t.now.positions t.now.high t.now.low work.old.met work.old.stack (suc work.old.depth) work.new.met work.new.stack work.new.depth }
-    ensures left { zeros work.new.met + work.new.depth ≡ zeros work.old.met + work.old.depth }
+    requires started { Started t.now (put_back work.old) }
+    requires top { top ≡ top_of work.old }
+    ensures stack { Kept t.now (put_back work.old) work.new }
+    ensures left { to_do work.new ≡ to_do work.old }
 {
     let m = top.first;
     let n = top.second;

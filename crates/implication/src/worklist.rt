@@ -1,6 +1,6 @@
 // The pairs of nodes that check 18 comes to.
-ghost use Rattle.std.specs.Prelude.{◌≡◌, ℕ, suc, ◌+◌, ◌-◌, length, replicate, eqb, Some, None, MatchOption};
-ghost use Rattle.implication.specs.Nodes.{is_known, cell, Met, Room, pushed, no_pair, first_at, second_at};
+ghost use Rattle.std.specs.Prelude.{◌≡◌, length, replicate, eqb, MatchOption};
+ghost use Rattle.implication.specs.Nodes.{is_known, cell, Room, Adds, put_back, top_of};
 
 use terms::Node;
 
@@ -39,9 +39,8 @@ impl Worklist {
 
     // Takes the pair on top off the stack, if there is one.
     pub(crate) fn pop(&mut self) -> Option<Pair>
-        requires { Room self.old.met self.old.stack self.old.depth }
-        ensures kept { (self.new.met ≡ self.old.met) × (self.new.stack ≡ self.old.stack) }
-        ensures top { MatchOption result ((self.old.depth ≡ 0) × (self.new.depth ≡ 0)) (λ p. (self.old.depth ≡ suc self.new.depth) × (p.first.0 ≡ first_at self.old.stack self.new.depth) × (p.second.0 ≡ second_at self.old.stack self.new.depth)) }
+        requires { Room self.old }
+        ensures { MatchOption result ((self.old.depth ≡ 0) × (self.new ≡ self.old)) (λ p. (self.old ≡ put_back self.new) × (p ≡ top_of self.new)) }
     {
         if self.depth == 0 {
             return None;
@@ -52,10 +51,8 @@ impl Worklist {
 
     // Puts a pair on top of the stack, unless it is known to imply or has been met before.
     pub(crate) fn meet(&mut self, m: Node, n: Node)
-        requires { Room self.old.met self.old.stack self.old.depth }
-        ensures depth { self.new.depth ≡ self.old.depth + (1 - cell self.old.met m.0 n.0) }
-        ensures met { Met self.old.met self.new.met m.0 n.0 }
-        ensures stack { self.new.stack ≡ pushed (cell self.old.met m.0 n.0) self.old.stack self.old.depth m.0 n.0 }
+        requires { Room self.old }
+        ensures { Adds self.old self.new m.0 n.0 }
     {
         if self.has_met(m, n) {
             return;

@@ -84,8 +84,8 @@ impl Incumbent {
 fn takes_first(marks: &[u8; 20], best: &[u8; 20]) -> bool
     ensures { result ≡ takes_first marks.now best.now }
 {
-    for (i, mark) in marks.iter().enumerate() {
-        if *mark != best[i] {
+    for (mark, held) in marks.iter().zip(best) {
+        if mark != held {
             return *mark == Plan::TAKEN;
         }
     }

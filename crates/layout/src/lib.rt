@@ -4,16 +4,15 @@
 mod lay;
 mod weigh;
 
-ghost use Rattle.std.specs.Prelude.{◌≡◌, ℕ, ◌≤◌, length, get_or};
-ghost use Rattle.diagram.specs.Table.{choice_count};
 ghost use Rattle.decoding.specs.Decoding.{table_in, Sound};
+ghost use Rattle.valuing.specs.Valued.{Legal};
 ghost use Rattle.layout.specs.Layout.{LaidOut, EveryCell};
 
 use decoding::Decoded;
 use lay::lay_arcs;
 use layers::LaidArcs;
 use ordering::order_records;
-use valuing::{losses, value_plan};
+use valuing::{PlanValue, losses, value_plan};
 use weigh::losses_by_rank;
 
 // What does not change during a search: the plan's bound; by position how many nodes stand before it; the arcs; and by rank what leaving
@@ -30,17 +29,15 @@ pub struct Layout {
 // order, and weighs what leaving a line loses at each of its nodes.
 pub fn arrange(table: &Decoded, plan: &[u8]) -> Layout
     requires sound { Sound table.now }
-    requires plan { (length plan.now ≡ choice_count (table_in table.now).variables) × ((i : ℕ) → get_or plan.now i 0 ≤ 2) }
+    requires plan { Legal table.now plan.now }
     ensures laid { LaidOut (table_in table.now) plan.now result }
     ensures cells { EveryCell table.now plan.now result }
 {
-    let mut arcs = [0u64; 544];
-    let mut weights = [0u64; 544];
-    let mut values = [0u64; 256];
-    let valued = value_plan(table, plan, &mut arcs, &mut weights, &mut values);
+    let mut valued = PlanValue::ZEROS;
+    value_plan(table, plan, &mut valued);
     let nodes = order_records(table.records, table.variables, &table.positions);
-    let laid = lay_arcs(table, &valued.roots, &arcs, &valued.marks, &nodes.list);
-    let lost = losses(table.records, &table.low, &arcs, &values);
+    let laid = lay_arcs(table, &valued, &nodes.list);
+    let lost = losses(table.records, &table.low, &valued.arcs, &valued.values);
     Layout {
         bound: valued.bound,
         ends: nodes.starts,

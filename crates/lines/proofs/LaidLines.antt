@@ -26,16 +26,21 @@ laid-length l i zero = refl
 laid-length l i (suc n) = ap suc (laid-length l (suc i) n)
 
 -- no line yet
-pub laid-none : (l : Listing) {r : Rank} {c : Choice} → r.0 ≡ 0 → c.0 ≡ 0 → replicate 20 (record { layer = record { first = r; own = r; next = r }; choice = c; kits = 0 }) ≡ lines_laid l 0
+pub laid-none : (l : Listing) → replicate 20 no_line ≡ lines_laid l 0
 unfolding lines_from
-laid-none l {r} {c} er ec =
+laid-none l = refl
+
+-- what stands where no line does
+pub none-is : {r : Rank} {c : Choice} → r.0 ≡ 0 → c.0 ≡ 0 → (record { layer = record { first = r; own = r; next = r }; choice = c; kits = 0 }) ≡ no_line
+none-is {r} {c} er ec =
     let rank : r ≡ (record { 0 = 0 }) = ap (λ (n : ℕ). record { 0 = n }) er in
     let choice : c ≡ (record { 0 = 0 }) = ap (λ (n : ℕ). record { 0 = n }) ec in
     rw (rank, choice) refl
 
 -- the lines in use
-pub laid-used : (l : Listing) (count : ℕ) {lines : List Line} → lines ≡ lines_laid l count → take count lines ≡ lines_from l 0 count
-laid-used l count e = rw e (take_at (lines_from l 0 count) _ count (laid-length l 0 count))
+pub lines_used : (l : Listing) {n count : ℕ} {lines used : List Line} → lines ≡ lines_laid l n → count ≡ n → used ≡ take count lines → used ≡ lines_from l 0 n
+lines_used l {n} laid counted taken =
+    rw (taken, counted, laid) (take_at (lines_from l 0 n) _ n (laid-length l 0 n))
 
 -- the first layer begins at rank 0
 pub start-first : (l : Listing) {first : ℕ} → first ≡ 0 → first ≡ layer_start l 0

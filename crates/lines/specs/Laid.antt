@@ -1,5 +1,8 @@
 -- The open lines as a search has them, the lowest first.
 use Rattle.std.specs.Prelude.{ℕ, zero, suc, ◌+◌, ◌-◌, ◌<◌, List, [], ◌∷◌, ◌++◌, get_or, replicate}
+use Rattle.terms.specs.declared.plan.Plan.{Plan}
+use Rattle.decoding.specs.Decoding.{pad_to}
+use Rattle.lines.specs.Open.{rows, open_lines}
 use Rattle.lines.specs.declared.lay.Line.{Line}
 
 -- The numbers of lines
@@ -19,6 +22,10 @@ pub record Listing : Type 0 where
 
 abbrev pub listing_of : (numbers positions ends kits : List ℕ) → Listing
 listing_of numbers positions ends kits = record { numbers = numbers; positions = positions; ends = ends; kits = kits }
+
+-- That of the open lines of a plan
+abbrev pub listing_of_plan : Plan → (positions ends kits : List ℕ) → Listing
+listing_of_plan plan = listing_of (pad_to 20 (open_lines (rows plan)))
 
 -- Number i of the lines, and its position
 abbrev pub number_at : Listing → (i : ℕ) → ℕ

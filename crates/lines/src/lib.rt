@@ -2,7 +2,5 @@
 #![tactic(auto)]
 
 mod lay;
-mod open;
 
-pub use lay::{Line, lay_lines};
-pub use open::{OpenLines, open_lines};
+pub use lay::{Line, Lines};

@@ -1,5 +1,5 @@
 // Damage to a table: another length, another field of a word, children exchanged, another bit.
-use made_files::{File, Kind, Word, draw, fork, once_in, plus, times};
+use made_files::{File, Kind, Word, draw, fork, once_in};
 
 // Values that a field may be set to: the limits of documents 01 and 02 and the numbers beside them.
 const VALUES: [usize; 19] = [
@@ -22,8 +22,7 @@ pub fn damaged(mut file: File, seed: usize) -> File {
 
 // Does one damage to a table.
 fn damage(file: &mut File, seed: usize) {
-    let way = draw(seed, 4, 20);
-    match way {
+    match draw(seed, 4, 20) {
         0 => file.size = length(file, seed),
         1 => change_heading(file, seed),
         2 => change_field(file, seed, 0),
@@ -40,37 +39,38 @@ fn damage(file: &mut File, seed: usize) {
 // Sets the heading beyond the limits, or to one variable, record or root word more or less than there are.
 fn change_heading(file: &mut File, seed: usize) {
     let mut w = file.word(0);
-    let way = draw(seed, 12, 10);
-    match way {
+    match draw(seed, 12, 10) {
         0 => w.p = 0,
         1 => w.p = 61,
-        2 => w.p = plus(w.p, 1),
+        2 => w.p = w.p.saturating_add(1),
         3 => w.q = 0,
         4 => w.q = 255,
-        5 => w.q = plus(w.q, 1),
+        5 => w.q = w.q.saturating_add(1),
         6 => w.q = w.q.saturating_sub(1),
         7 => w.r = 17,
         8 => w.r = w.r.saturating_sub(1),
-        _ => w.r = plus(w.r, 1),
+        _ => w.r = w.r.saturating_add(1),
     }
     file.set_word(0, w);
 }
 
 // The word of a variable.
 fn variable_word(file: &File, seed: usize) -> usize {
-    plus(1, draw(seed, 5, file.variables()))
+    draw(seed, 5, file.variables()).saturating_add(1)
 }
 
 // The word of a record.
 fn record_word(file: &File, seed: usize) -> usize {
-    plus(1, plus(file.variables(), draw(seed, 6, file.records())))
+    file.variables()
+        .saturating_add(draw(seed, 6, file.records()))
+        .saturating_add(1)
 }
 
 // A root word, or the last record where there is none.
 fn root_word(file: &File, seed: usize) -> usize {
     let n = file.roots();
     if n == 0 {
-        return file.at_node(plus(file.records(), 1));
+        return file.at_node(file.records().saturating_add(1));
     }
     file.at_root(draw(seed, 13, n))
 }
@@ -91,7 +91,10 @@ fn length(file: &File, seed: usize) -> usize {
     let d = draw(seed, 7, 28);
     match LENGTHS.get(d) {
         Some(length) => *length,
-        None => plus(file.size, d.saturating_sub(16)).saturating_sub(6),
+        None => file
+            .size
+            .saturating_add(d.saturating_sub(16))
+            .saturating_sub(6),
     }
 }
 
@@ -99,9 +102,8 @@ fn length(file: &File, seed: usize) -> usize {
 fn change_field(file: &mut File, seed: usize, i: usize) {
     let mut w = file.word(i);
     // the node of the word, if it is a record
-    let node = plus(i, 1).saturating_sub(file.variables());
-    let field = draw(seed, 8, 5);
-    match field {
+    let node = i.saturating_add(1).saturating_sub(file.variables());
+    match draw(seed, 8, 5) {
         0 => w.kind = value(seed, w.kind, i),
         1 => w.p = value(seed, w.p, file.variables()),
         2 => w.q = value(seed, w.q, node),
@@ -118,10 +120,10 @@ fn value(seed: usize, old: usize, other: usize) -> usize {
         return *value;
     }
     match d {
-        19..=21 => plus(old, 1),
+        19..=21 => old.saturating_add(1),
         22 | 23 => old.saturating_sub(1),
         24 | 25 => other,
-        26 => plus(other, 1),
+        26 => other.saturating_add(1),
         27 => other.saturating_sub(1),
         _ => draw(seed, 10, 2048),
     }
@@ -137,14 +139,14 @@ fn exchange(file: &mut File, i: usize) {
 fn enlarge_scale(file: &mut File, i: usize) {
     let mut w = file.word(i);
     if w.is(Kind::Chance) {
-        w.r = plus(w.r, 1);
+        w.r = w.r.saturating_add(1);
         file.set_word(i, w);
     }
 }
 
 // Changes one bit.
 fn flip(file: &mut File, seed: usize) {
-    let bit = draw(seed, 11, times(8, file.size));
+    let bit = draw(seed, 11, file.size.saturating_mul(8));
     if let Some(byte) = file.bytes.get_mut(bit / 8) {
         *byte ^= 1 << (bit % 8);
     }

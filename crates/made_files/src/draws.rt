@@ -1,4 +1,4 @@
-// Numbers that look random, each decided by a seed and a label, and arithmetic on small numbers that has an answer for all.
+// Numbers that look random, each decided by a seed and a label.
 
 // A seed of its own for each label.
 pub fn fork(seed: usize, label: usize) -> usize {
@@ -17,14 +17,4 @@ pub fn draw(seed: usize, label: usize, n: usize) -> usize {
 // Whether a chance of one in `n` holds.
 pub fn once_in(seed: usize, label: usize, n: usize) -> bool {
     draw(seed, label, n) == 0
-}
-
-// The sum of two numbers below 65,536.
-pub fn plus(a: usize, b: usize) -> usize {
-    a % 65536 + b % 65536
-}
-
-// The product of two numbers below 65,536.
-pub fn times(a: usize, b: usize) -> usize {
-    (a % 65536) * (b % 65536)
 }

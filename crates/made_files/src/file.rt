@@ -1,7 +1,6 @@
 // A table file in the making, and the words in it.
 ghost use Rattle.std.specs.Prelude.{◌≡◌, take};
 
-use crate::draws::{plus, times};
 use crate::marks::Marks;
 use crate::words::{Kind, Word};
 
@@ -17,7 +16,7 @@ impl File {
     pub fn started(v: usize, n: usize) -> File {
         let mut file = File {
             bytes: [0; 1344],
-            size: times(4, plus(1, plus(v, n))),
+            size: v.saturating_add(n).saturating_add(1).saturating_mul(4),
         };
         file.set_word(0, Word::new(Kind::Heading, v, n, 0));
         file
@@ -28,7 +27,7 @@ impl File {
         let mut heading = self.word(0);
         heading.r = roots;
         self.set_word(0, heading);
-        self.size = times(4, self.at_root(roots));
+        self.size = self.at_root(roots).saturating_mul(4);
     }
 
     // The bytes that count.
@@ -58,7 +57,7 @@ impl File {
     {
         for i in 0..count {
             let w = word(self, i);
-            self.set_word(plus(place, i), w);
+            self.set_word(place.saturating_add(i), w);
         }
     }
 
@@ -100,17 +99,20 @@ impl File {
 
     // The place of a root word by its number, counted from the heading.
     pub fn at_root(&self, i: usize) -> usize {
-        plus(plus(1, i), plus(self.variables(), self.records()))
+        self.variables()
+            .saturating_add(self.records())
+            .saturating_add(i)
+            .saturating_add(1)
     }
 
     // The word of a node that is a record, counted from the heading.
     pub fn at_node(&self, node: usize) -> usize {
-        plus(self.variables(), node).saturating_sub(1)
+        self.variables().saturating_add(node).saturating_sub(1)
     }
 
     // Whether the variable at a position is a choice.
     pub fn is_choice(&self, p: usize) -> bool {
-        self.word(plus(1, p)).is(Kind::Choice)
+        self.word(p.saturating_add(1)).is(Kind::Choice)
     }
 
     // How many of the variables are choices.
@@ -124,7 +126,8 @@ impl File {
             .filter(|p| self.is_choice(*p))
             .zip(plan.marks)
             .filter(|(_, mark)| *mark == 1)
-            .fold(0, |sum, (p, _)| plus(sum, plus(self.word(plus(1, p)).r, 1)))
+            .map(|(p, _)| self.word(p.saturating_add(1)).r.saturating_add(1))
+            .fold(0, usize::saturating_add)
     }
 
     // How often the product of b goes into 2^56.
@@ -136,7 +139,7 @@ impl File {
 
     // The b of the chance at a position, or 1 for a choice.
     fn share_of(&self, p: usize) -> usize {
-        let w = self.word(plus(1, p));
+        let w = self.word(p.saturating_add(1));
         if w.is(Kind::Chance) { w.r } else { 1 }
     }
 

@@ -7,7 +7,7 @@ mod marks;
 mod numbers;
 mod words;
 
-pub use draws::{draw, fork, once_in, plus, times};
+pub use draws::{draw, fork, once_in};
 pub use file::File;
 pub use marks::Marks;
 pub use numbers::{kits, lent, percentage, ratio};

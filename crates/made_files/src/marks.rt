@@ -1,7 +1,7 @@
 // Plans in the making.
 ghost use Rattle.std.specs.Prelude.{◌≡◌, take};
 
-use crate::draws::{draw, fork, once_in, plus};
+use crate::draws::{draw, fork, once_in};
 use std::array;
 
 // The marks of a plan, of which the first `count` count.
@@ -21,7 +21,7 @@ impl Marks {
         };
         let way = draw(seed, 3, 10);
         let mut plan = Marks {
-            marks: array::from_fn(|i| mark(fork(seed, plus(i, 4)), way)),
+            marks: array::from_fn(|i| mark(fork(seed, i.saturating_add(4)), way)),
             count,
         };
         if once_in(seed, 40, 24) {
@@ -75,6 +75,6 @@ fn wrong(seed: usize) -> u8 {
     if once_in(seed, 44, 2) {
         3
     } else {
-        (plus(3, draw(seed, 45, 253)) % 256) as u8
+        (draw(seed, 45, 253).saturating_add(3) % 256) as u8
     }
 }

@@ -1,5 +1,5 @@
 // The numbers that come with a request: the size of the lent buffer, the kits and the percentage.
-use crate::draws::{draw, once_in, plus};
+use crate::draws::{draw, once_in};
 
 // The size of the lent buffer, now and then a wrong one.
 pub fn lent(seed: usize, choices: usize) -> usize {
@@ -12,24 +12,22 @@ pub fn lent(seed: usize, choices: usize) -> usize {
 
 // The kits of a job: mostly what a plan costs or one beside it, or less, or about as many as there are choices, now and then too many.
 pub fn kits(seed: usize, choices: usize, cost: usize) -> u32 {
-    let way = draw(seed, 8, 32);
-    let n = match way {
+    let n = match draw(seed, 8, 32) {
         0 => 4294967295,
         1 => 10021,
         2 => 10020,
         3 => draw(seed, 15, 131072),
         4..=7 => draw(seed, 9, 23),
-        8..=11 => draw(seed, 10, plus(choices, 2)),
-        12..=15 => draw(seed, 16, plus(cost, 2)),
-        _ => plus(cost, draw(seed, 17, 3)).saturating_sub(1),
+        8..=11 => draw(seed, 10, choices.saturating_add(2)),
+        12..=15 => draw(seed, 16, cost.saturating_add(2)),
+        _ => cost.saturating_add(draw(seed, 17, 3)).saturating_sub(1),
     };
     (n % 4294967296) as u32
 }
 
 // A percentage: mostly what a score is of B, at which it often is exact, or one beside it or below.
 pub fn percentage(seed: usize, percent: u32) -> u32 {
-    let way = draw(seed, 11, 32);
-    match way {
+    match draw(seed, 11, 32) {
         0 => u32::MAX,
         1 => 101,
         2 => (draw(seed, 12, 106) % 4294967296) as u32,

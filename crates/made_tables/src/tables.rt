@@ -1,5 +1,5 @@
 // Tables of at most ten variables and six choices, made so that most of them are accepted.
-use made_files::{File, Kind, Word, draw, fork, once_in, plus, times};
+use made_files::{File, Kind, Word, draw, fork, once_in};
 use made_words::{add_roots, variable};
 
 // The two children of a record.
@@ -13,7 +13,7 @@ struct Pair {
 pub fn table(seed: usize) -> File {
     let mut file = File::started(variable_count(seed), record_count(seed));
     file.set_variables(|file, p| variable(file, fork(seed, 1), p));
-    file.set_records(|file, k| record(file, fork(seed, 2), plus(k, 2)));
+    file.set_records(|file, k| record(file, fork(seed, 2), k.saturating_add(2)));
     add_roots(&mut file, fork(seed, 9));
     file
 }
@@ -21,7 +21,9 @@ pub fn table(seed: usize) -> File {
 // Mostly up to 7, and up to 10.
 fn variable_count(seed: usize) -> usize {
     let most = if once_in(seed, 3, 8) { 10 } else { 7 };
-    plus(1, draw(seed, 4, most).max(draw(seed, 5, most)))
+    draw(seed, 4, most)
+        .max(draw(seed, 5, most))
+        .saturating_add(1)
 }
 
 // Up to 24, and rarely the most that there may be.
@@ -29,14 +31,14 @@ fn record_count(seed: usize) -> usize {
     if once_in(seed, 6, 200) {
         return 254;
     }
-    plus(1, draw(seed, 7, 24).max(draw(seed, 8, 24)))
+    draw(seed, 7, 24).max(draw(seed, 8, 24)).saturating_add(1)
 }
 
 // The record of a node, made from the nodes before it. Some are equal to one of these.
 fn record(file: &File, seed: usize, node: usize) -> Word {
     let own = fork(seed, node);
     if 2 < node && once_in(own, 15, 12) {
-        let back = plus(1, draw(own, 16, node.saturating_sub(2)));
+        let back = draw(own, 16, node.saturating_sub(2)).saturating_add(1);
         return file.node(node.saturating_sub(back));
     }
     let p = position(file, seed, node);
@@ -49,10 +51,12 @@ fn position(file: &File, seed: usize, node: usize) -> usize {
     let v = file.variables();
     let n = file.records();
     let own = fork(seed, node);
-    if once_in(own, 17, plus(2, draw(seed, 18, 8))) {
+    if once_in(own, 17, draw(seed, 18, 8).saturating_add(2)) {
         return draw(own, 19, v);
     }
-    times(plus(n, 1).saturating_sub(node), v)
+    n.saturating_add(1)
+        .saturating_sub(node)
+        .saturating_mul(v)
         .checked_div(n)
         .unwrap_or(0)
 }
@@ -144,7 +148,7 @@ fn earlier(file: &File, seed: usize, node: usize, p: usize) -> usize {
 // One of the nodes before a node by the number of the try: in the first two one of the last four.
 fn candidate(seed: usize, node: usize, t: usize) -> usize {
     if t < 2 {
-        node.saturating_sub(plus(1, draw(seed, t, 4)))
+        node.saturating_sub(draw(seed, t, 4).saturating_add(1))
     } else {
         draw(seed, t, node)
     }

@@ -1,6 +1,6 @@
 // Tables of up to 60 variables, 254 records and 16 root words, with too many choices, too large a product, or neither. One record
 // or the last root word of each is wrong, so that none is accepted.
-use made_files::{File, Kind, Word, draw, fork, once_in, plus};
+use made_files::{File, Kind, Word, draw, fork, once_in};
 use made_words::{add_roots, wide_variable, wrong};
 
 // A table whose records, but for the wrong one, are all alike.
@@ -22,18 +22,17 @@ pub fn wide(seed: usize) -> File {
 // Puts a wrong root word in place of the last one, or alone.
 fn set_wrong_root(file: &mut File, seed: usize) {
     let last = file.roots().saturating_sub(1);
-    file.set_roots(plus(last, 1));
-    let w = Word::new(Kind::Root, 0, plus(1, draw(seed, 8, 64)), 2);
+    file.set_roots(last.saturating_add(1));
+    let w = Word::new(Kind::Root, 0, draw(seed, 8, 64).saturating_add(1), 2);
     file.set_word(file.at_root(last), wrong(w, fork(seed, 9), file.records()));
 }
 
 // Makes one record wrong.
 fn set_fault(file: &mut File, seed: usize) {
-    let node = plus(2, draw(seed, 10, file.records()));
-    let way = draw(seed, 11, 4);
-    let w = match way {
+    let node = draw(seed, 10, file.records()).saturating_add(2);
+    let w = match draw(seed, 11, 4) {
         0 => Word::new(Kind::Chance, 0, 1, 0),
-        1 => Word::new(Kind::Record, plus(file.variables(), 3), 1, 0),
+        1 => Word::new(Kind::Record, file.variables().saturating_add(3), 1, 0),
         2 => Word::new(Kind::Record, 0, node, 0),
         _ => Word::new(Kind::Record, 0, 1, node),
     };

@@ -1,5 +1,5 @@
 // The variable words of a table: of a mixed one, of a wide one, and of one that is mostly lines.
-use made_files::{File, Kind, Word, draw, fork, once_in, plus};
+use made_files::{File, Kind, Word, draw, fork, once_in};
 
 // A variable of a table that is mostly lines, as long as there are fewer than six. In half of these events are certain.
 pub fn line_or_event(file: &File, seed: usize, p: usize) -> Word {
@@ -14,8 +14,12 @@ pub fn line_or_event(file: &File, seed: usize, p: usize) -> Word {
 
 // The variable at a position of a mixed table: a choice, as long as there are fewer than six, or a chance, as the last one mostly is.
 pub fn variable(file: &File, seed: usize, p: usize) -> Word {
-    let last = plus(p, 1) == file.variables();
-    let odds = if last { 1 } else { plus(1, draw(seed, 7, 4)) };
+    let last = p.saturating_add(1) == file.variables();
+    let odds = if last {
+        1
+    } else {
+        draw(seed, 7, 4).saturating_add(1)
+    };
     if draw(fork(seed, p), 8, 5) < odds && file.choices() < 6 {
         return line(seed, p);
     }
@@ -27,10 +31,9 @@ pub fn variable(file: &File, seed: usize, p: usize) -> Word {
 fn line(seed: usize, p: usize) -> Word {
     let own = fork(seed, p);
     let mut w = Word::new(Kind::Choice, p, 0, kits_less_one(draw(seed, 21, 8), own));
-    let fault = draw(own, 22, 600);
-    match fault {
+    match draw(own, 22, 600) {
         0 => w.r = 501,
-        1 => w.r = plus(501, draw(own, 23, 1547)),
+        1 => w.r = draw(own, 23, 1547).saturating_add(501),
         2 => w.q = 1,
         _ => {}
     }
@@ -55,14 +58,13 @@ fn kits_less_one(way: usize, own: usize) -> usize {
 fn scale(file: &File, seed: usize, p: usize) -> usize {
     let most = most_scale(file.variables());
     let own = fork(seed, p);
-    let way = draw(seed, 9, 6);
-    match way {
+    match draw(seed, 9, 6) {
         0 => 2,
         1 => 10,
         2 => most,
         3 => percentage(draw(own, 10, 6), most),
-        4 => plus(1, draw(own, 11, 10)),
-        _ => plus(1, draw(own, 12, most)),
+        4 => draw(own, 11, 10).saturating_add(1),
+        _ => draw(own, 12, most).saturating_add(1),
     }
 }
 
@@ -92,11 +94,10 @@ fn percentage(way: usize, most: usize) -> usize {
 
 // The a of a chance: now and then certain one way or the other, and often the half.
 fn share(own: usize, b: usize) -> usize {
-    let way = draw(own, 13, 8);
-    match way {
+    match draw(own, 13, 8) {
         0 => if once_in(own, 20, 2) { 0 } else { b },
         1..=3 => b / 2,
-        _ => draw(own, 14, plus(b, 1)),
+        _ => draw(own, 14, b.saturating_add(1)),
     }
 }
 
@@ -108,7 +109,7 @@ pub fn wide_variable(file: &File, seed: usize, p: usize) -> Word {
         return line(seed, p);
     }
     let b = wide_scale(draw(seed, 17, 6), draw(own, 18, 4));
-    Word::new(Kind::Chance, p, draw(own, 19, plus(b, 1)), b)
+    Word::new(Kind::Chance, p, draw(own, 19, b.saturating_add(1)), b)
 }
 
 // The b of a chance, by the table's way and a draw of its own.

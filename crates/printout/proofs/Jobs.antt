@@ -1,13 +1,14 @@
 -- What is printed for a job, from what reading and the search answer, and from what the job word says, and the whole buffer that it is printed to. Assumes
 -- nothing.
-use Prim.Native.Nat.{ℕ, zero, suc, ◌-◌, ◌/◌, ◌≤◌, min}
+use Prim.Native.Nat.{ℕ, ◌-◌, ◌/◌, ◌≤◌, min}
 use native.Mathlib.Decide.{dec_lt}
 use native.Mathlib.Omega.{arith}
 use mathlib.Core.Path.{◌≡◌, refl, ap, sym, ◌∙◌}
-use mathlib.Core.List.{List, ◌∷◌, ◌++◌}
+use mathlib.Core.List.{List, ◌++◌}
 use mathlib.Core.Logic.{by_cases}
-use lib.ListN.{length, take, drop, replicate, length-take, take-append-drop}
-use lib.Seq.{take-take, take-length, take_all}
+use lib.ListN.{length, take, drop, replicate, take-append-drop}
+use lib.Seq.{length-take-le, take-length, take_all}
+use Rattle.std.proofs.lemmas.List.{take-replicate}
 use mathlib.Core.Bool.{true, false}
 use lib.Dec.{eqb}
 use borrow.Author.Tests.{eqb-true, le-ltb}
@@ -42,20 +43,20 @@ use Rattle.text.specs.Lines.{table_text, found_text, full_text}
 
 module _ (s : List ℕ) {r : Result Decoded Refusal} (promise : outcome_by numbers_in r ≡ read_outcome s) (d : Decoded) (e : r ≡ Ok d) where
   -- a table that is read has at most 20 choices, so that none is cut off
-  pub choices-kept : {n : ℕ} → n ≡ min d.choices 20 → n ≡ choice_count (table_of s).variables
+  choices-kept : {n : ℕ} → n ≡ min d.choices 20 → n ≡ choice_count (table_of s).variables
   choices-kept q =
       omega (arith, table-choices numbers_in s promise d e, passed_choices (table_passed numbers_in s promise d e))
+
+  -- so the open plan has a mark for each choice, every line is open, and the buffer that the search is lent has a place for each mark
+  pub plan-open : {n : ℕ} {marks : List ℕ} → n ≡ min d.choices 20 → marks ≡ replicate 20 0 → (n ≡ choice_count (table_of s).variables) × (take n marks ≡ replicate (choice_count (table_of s).variables) 0) × (length (take n (replicate {A = ℕ} 20 0)) ≡ n)
+  plan-open {n} q zeros =
+      let few : n ≤ 20 = omega (arith, q) in
+      (choices-kept q, rw (zeros, ← choices-kept q) (take-replicate n 20 0 few), length-take-le n _ few)
 
   -- its scale is the one that reading answers
   pub scale-read : d.scale ≡ scale (table_of s)
   unfolding reading
   scale-read = ap (λ (x : Reading). x.scale) (table-reading numbers_in s promise d e)
-
--- the first lines of an open plan are open
-pub take-zeros : (n m : ℕ) → n ≤ m → ◌≡◌ {A = List ℕ} (take n (replicate m 0)) (replicate n 0)
-take-zeros zero m h = refl
-take-zeros (suc n) zero h = absurd (omega arith)
-take-zeros (suc n) (suc m) h = ap (λ (l : List ℕ). 0 ∷ l) (take-zeros n m (omega arith))
 
 -- ---------------------------------------------------------------------------
 -- The search of a job
@@ -126,17 +127,12 @@ printed input {n} e =
     (λ f. let part : n ≡ 1329 = omega arith in rw part refl) in
     ap (λ (read : List ℕ). job_text read) same
 
--- so what follows them is not printed
-pub printed_part : (input : List ℕ) {n : ℕ} → 1329 ≤ n → printout (take n input) ≡ printout input
-unfolding printout
-printed_part input {n} h = rw (take-take 1329 n input h) refl
-
 -- ---------------------------------------------------------------------------
 -- The whole buffer
 
 -- what is appended to no text ends within the buffer
 pub appended_within : {t : Text} {x : List ℕ} → Appends empty x t → (t.count ≡ length x) × (t.count ≤ 1024)
-appended_within {t} w = (omega (arith, w.count), omega (arith, w.count, w.size, ap length w.text, length-take t.count t.bytes))
+appended_within {t} w = (omega (arith, w.count), t.fits)
 
 -- and is followed by zeros
 pub appended_all : {t : Text} {x : List ℕ} → Appends empty x t → t.bytes ≡ x ++ replicate (1024 - t.count) 0

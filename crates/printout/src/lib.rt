@@ -1,4 +1,4 @@
-// What the program `plan` prints for the bytes that it reads, as text in a buffer.
+// What the program `plan` prints for the bytes that it reads, as a `Text` by value.
 #![tactic(auto)]
 
 mod found;

@@ -19,5 +19,5 @@ pub fn score(file: &[u8], plan: &[u8]) -> Result<u64, Refusal>
 {
     let table = read_table(file)?;
     check_full_plan(plan, table.choices)?;
-    Ok(upper_bound(table, plan))
+    Ok(upper_bound(&table, plan))
 }

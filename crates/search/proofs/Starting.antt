@@ -34,7 +34,7 @@ use Rattle.layout.specs.Flows as layers
 use Rattle.layout.specs.Flows.{Stand}
 use Rattle.layout.specs.Layout.{Ending, Arranged}
 use Rattle.lines.specs.Open.{rows, open_from, open_lines}
-use Rattle.lines.specs.Laid.{Listing, listing_of, layer_start, line_at, lines_from, numbers_of}
+use Rattle.lines.specs.Laid.{Listing, listing_of, listing_of_plan, layer_start, line_at, lines_from, numbers_of}
 use Rattle.lines.specs.declared.lay.Line.{Line}
 use Rattle.lines.proofs.Listed.{lines-length, lines-few}
 use Rattle.lines.proofs.LaidLines.{laid-length}
@@ -214,7 +214,7 @@ module _ (t : Table) (s : List ℕ) (long : length s ≡ choice_count t.variable
         }
 
   -- ---------------------------------------------------------------------------
-  -- The lines as `lay_lines` lays them out
+  -- The lines as `Lines::of_plan` lays them out
 
   module _ (count : ℕ) (numbers positions : List ℕ) (listed : numbers ≡ pad_to 20 (open_lines s)) (counted : count ≡ length (open_lines s)) (chosen : (i : ℕ) → i < choice_count t.variables → get_or positions i 0 ≡ choice_position t.variables i) where
     -- all open lines are listed
@@ -233,7 +233,7 @@ module _ (t : Table) (s : List ℕ) (long : length s ≡ choice_count t.variable
         let few = (opened_at i h).within in
         rw (number_at i h) (chosen (get_or (open_lines s) i 0) (omega (arith, few, long)))
 
-    -- what `lay_lines` asks for
+    -- what `Lines::of_plan` asks for
     pub numbers-few : choice_count t.variables ≤ 20 → length t.variables < 64 → (i : ℕ) → i < count → (get_or numbers i 0 < 20) × (get_or positions (get_or numbers i 0) 0 < 64)
     numbers-few few short i h =
         let at = opened_at i h in
@@ -325,34 +325,39 @@ pub nothing-held : (t : Table) (budget least : ℕ) {h : Incumbent} → h ≡ no
 nothing-held t budget least e =
     rw e (record { nothing = λ q. (refl, refl, refl); something = λ q h. absurd (some-ne-none q (sym h)) }, refl)
 
--- What is made of the plan handed in: its marks, and the numbers of its open lines
-pub record Ready (p : List ℕ) (start : Plan) (count : ℕ) (numbers : List ℕ) : Type 0 where
+-- The plan by value is the one handed in
+pub record Ready (p : List ℕ) (start : Plan) : Type 0 where
   pub handed : (rows start ≡ p) × (start.marks ≡ padded p) × (length start.marks ≡ 20)
-  pub listed : numbers ≡ pad_to 20 (open_lines (rows start))
-  pub counted : count ≡ length (open_lines (rows start))
 
-pub made_ready : {d : Decoded} {p numbers : List ℕ} {start : Plan} {count : ℕ} → Sound d → length p ≡ choice_count (table_in d).variables → start.marks ≡ take (min (length p) 20) p ++ replicate (20 - min (length p) 20) 0 → start.count ≡ min (length p) 20 → numbers ≡ pad_to 20 (open_lines (rows start)) → count ≡ length (open_lines (rows start)) → Ready p start count numbers
-made_ready sound long marks count listed counted =
-    record { handed = handed_in _ _ (omega (arith, long, sound.valid.choices)) marks count; listed = listed; counted = counted }
+pub made_ready : {d : Decoded} {p : List ℕ} {start : Plan} → Sound d → length p ≡ choice_count (table_in d).variables → start.marks ≡ take (min (length p) 20) p ++ replicate (20 - min (length p) 20) 0 → start.count ≡ min (length p) 20 → Ready p start
+made_ready sound long marks count =
+    record { handed = handed_in _ _ (omega (arith, long, sound.valid.choices)) marks count }
 
-module _ {d : Decoded} {p : List ℕ} (sound : Sound d) (long : length p ≡ choice_count (table_in d).variables) {start : Plan} {count : ℕ} {numbers : List ℕ} (ready : Ready p start count numbers) where
-  lists : numbers ≡ pad_to 20 (open_lines p)
-  lists = rw ready.handed.0 at ready.listed
+-- How many lines of a plan are open, and their numbers
+abbrev first_open : Plan → ℕ
+first_open start = length (open_lines (rows start))
 
-  room : count ≡ length (open_lines p)
-  room = rw ready.handed.0 at ready.counted
+abbrev first_numbers : Plan → List ℕ
+first_numbers start = pad_to 20 (open_lines (rows start))
+
+module _ {d : Decoded} {p : List ℕ} (sound : Sound d) (long : length p ≡ choice_count (table_in d).variables) {start : Plan} (ready : Ready p start) where
+  lists : first_numbers start ≡ pad_to 20 (open_lines p)
+  lists = rw ready.handed.0 refl
+
+  room : first_open start ≡ length (open_lines p)
+  room = rw ready.handed.0 refl
 
   -- there are at most 20
-  pub first_count : count ≤ 20
+  pub first_count : first_open start ≤ 20
   first_count = omega (arith, room, lines-few p, long, sound.valid.choices)
 
-  -- what `lay_lines` asks for
-  pub first-few : (i : ℕ) → i < count → (get_or numbers i 0 < 20) × (get_or d.choice_positions (get_or numbers i 0) 0 < 64)
+  -- what `Lines::of_plan` asks for
+  pub first-few : (i : ℕ) → i < first_open start → (get_or (first_numbers start) i 0 < 20) × (get_or d.choice_positions (get_or (first_numbers start) i 0) 0 < 64)
   first-few =
-      numbers-few (table_in d) p long count numbers d.choice_positions lists room (choice-positions-own sound.held) sound.valid.choices (omega (arith, sound.valid.variables))
+      numbers-few (table_in d) p long (first_open start) (first_numbers start) d.choice_positions lists room (choice-positions-own sound.held) sound.valid.choices (omega (arith, sound.valid.variables))
 
   -- all that the first visit is handed
-  pub first_visitable : (kits : List ℕ) → {percent budget least bound left : ℕ} {ends order losses cells marks : List ℕ} {lines : List Line} {h : Incumbent} {l : LaidArcs} → Arranged (table_in d) p bound ends order l losses → lines ≡ lines_from (listing_of numbers d.choice_positions ends kits) 0 count → get_or cells 1 0 ≡ 1 → marks ≡ start.marks → left ≡ budget + 1 - cost_of kits p → LeastPassing (table_in d) percent least → Holds (priced (take (length p) kits) (table_in d)) budget least none h → Visitable (first_scene kits (table_in d) p order percent budget least) l losses lines cells marks h left bound
+  pub first_visitable : (kits : List ℕ) → {percent budget least bound left : ℕ} {ends order losses cells marks : List ℕ} {lines : List Line} {h : Incumbent} {l : LaidArcs} → Arranged (table_in d) p bound ends order l losses → lines ≡ lines_from (listing_of_plan start d.choice_positions ends kits) 0 (first_open start) → get_or cells 1 0 ≡ 1 → marks ≡ start.marks → left ≡ budget + 1 - cost_of kits p → LeastPassing (table_in d) percent least → Holds (priced (take (length p) kits) (table_in d)) budget least none h → Visitable (first_scene kits (table_in d) p order percent budget least) l losses lines cells marks h left bound
   unfolding cost priced
   first_visitable kits {lines = lines} arranged laid heavy same affords passing holds =
       let list = take (length p) kits in
@@ -366,20 +371,20 @@ module _ {d : Decoded} {p : List ℕ} (sound : Sound d) (long : length p ≡ cho
         stands = record {
           settles = record { size = refl; kept = λ i f. refl; later = λ i h. refl };
           marked = same ∙ ready.handed.1;
-          listed = rw laid (lines_listed (table_in d) p long count numbers d.choice_positions lists room chosen kits arranged.ending);
-          laid = rw laid (lines_laid (table_in d) p long count numbers d.choice_positions lists room chosen kits arranged.ending);
+          listed = rw laid (lines_listed (table_in d) p long (first_open start) (first_numbers start) d.choice_positions lists room chosen kits arranged.ending);
+          laid = rw laid (lines_laid (table_in d) p long (first_open start) (first_numbers start) d.choice_positions lists room chosen kits arranged.ending);
           affords = rw (cost-first kits p) affords;
           bounded = arranged.bounded ∙ sym (priced-bound list (table_in d) p);
-          right = rw laid (first-right (table_in d) p long count numbers d.choice_positions lists room chosen kits arranged.ending _ _);
+          right = rw laid (first-right (table_in d) p long (first_open start) (first_numbers start) d.choice_positions lists room chosen kits arranged.ending _ _);
           rooted = heavy;
         };
         holds = holds;
       }
 
   -- the visits fit
-  pub first-room : {n : ℕ} {lines : List Line} (l : Listing) → n ≡ 0 → lines ≡ lines_from l 0 count → n + 2 ^ suc (length lines) ≤ 2 ^ 63
+  pub first-room : {n : ℕ} {lines : List Line} (l : Listing) → n ≡ 0 → lines ≡ lines_from l 0 (first_open start) → n + 2 ^ suc (length lines) ≤ 2 ^ 63
   first-room {lines = lines} l e laid =
-      let all : length lines ≡ count = rw laid (laid-length l 0 count) in
+      let all : length lines ≡ first_open start = rw laid (laid-length l 0 (first_open start)) in
       omega (arith, e, pow_mono {i = suc (length lines)} {j = 21} (omega (arith, all, first_count)))
 
 -- what the first visit leaves is what document 01's search does

@@ -1,8 +1,8 @@
 // The search of an accepted table from a legal plan: the open lines are laid out, then the plan is visited. The layout is handed in.
-ghost use Rattle.std.specs.Prelude.{◌≡◌, ℕ, ◌≤◌, length, get_or};
-ghost use Rattle.diagram.specs.Table.{choice_count};
+ghost use Rattle.std.specs.Prelude.{◌≡◌, ℕ, ◌≤◌};
 ghost use Rattle.diagram.specs.Plans.{LeastPassing};
 ghost use Rattle.decoding.specs.Decoding.{table_in, Sound};
+ghost use Rattle.valuing.specs.Valued.{Legal};
 ghost use Rattle.layout.specs.Layout.{LaidOut};
 ghost use Rattle.search.specs.Searched.{SearchedWithin};
 
@@ -11,7 +11,7 @@ use decoding::Decoded;
 use incumbent::Incumbent;
 use layers::ROOT_CELL;
 use layout::Layout;
-use lines::{lay_lines, open_lines};
+use lines::Lines;
 use terms::Plan;
 use visiting::{State, visit};
 
@@ -27,14 +27,13 @@ pub struct Limits {
 // theirs.
 pub fn explore(table: &Decoded, layout: &Layout, plan: &[u8], limits: Limits) -> Incumbent
     requires sound { Sound table.now }
-    requires plan { (length plan.now ≡ choice_count (table_in table.now).variables) × ((i : ℕ) → get_or plan.now i 0 ≤ 2) }
+    requires plan { Legal table.now plan.now }
     requires least { (limits.budget ≤ 10020) × ((percent : ℕ) × LeastPassing (table_in table.now) percent limits.least) }
     requires layout { LaidOut (table_in table.now) plan.now layout.now }
     ensures { SearchedWithin (table_in table.now) plan.now limits result }
 {
     let start = Plan::of_marks(plan);
-    let opened = open_lines(start);
-    let lines = lay_lines(&opened, &table.choice_positions, &layout.ends, &limits.kits);
+    let lines = Lines::of_plan(start, &table.choice_positions, &layout.ends, &limits.kits);
     let marks = start.marks;
     let mut state = State {
         cells: [0; 512],
@@ -44,12 +43,6 @@ pub fn explore(table: &Decoded, layout: &Layout, plan: &[u8], limits: Limits) ->
     state.cells[ROOT_CELL] = 1;
     // the kits that the plan leaves and one more, and 0 where it costs more than the budget
     let room = (u64::from(limits.budget) + 1).saturating_sub(cost_of(plan, &limits.kits));
-    visit(
-        layout,
-        &lines[..opened.count],
-        &mut state,
-        room,
-        layout.bound,
-    );
+    visit(layout, lines.as_slice(), &mut state, room, layout.bound);
     state.held
 }

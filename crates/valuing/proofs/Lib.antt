@@ -4,3 +4,4 @@ pub mod Passing
 pub mod Bounding
 pub mod RootSums
 pub mod Gaining
+pub mod Valuing

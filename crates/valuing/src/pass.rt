@@ -10,10 +10,10 @@ use terms::Node;
 // The values of the ends and of the first n records' nodes, each from its children's by two products and a sum. That every
 // value fits, the weights in force of a table show: no value is above the product of b from its node's position on, which is at most
 // 2^56.
-pub fn pass_up<'a>(
+pub fn pass_up(
     n: usize,
-    high: &'a [u8; 256],
-    low: &'a [u8; 256],
+    high: &[u8; 256],
+    low: &[u8; 256],
     weights: &[u64; 544],
     values: &mut [u64; 256],
 )

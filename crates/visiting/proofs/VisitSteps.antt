@@ -56,11 +56,6 @@ abbrev pub LeavesAt : LaidArcs → (losses : List ℕ) → List Line → (cells 
 LeavesAt l losses lines cells marks held room bound cells' marks' held' =
     (g : Scene) → Visitable g l losses lines cells marks held room bound → Visited g lines held.visits cells marks cells' marks' held'
 
--- a test denied twice
-not_twice : (b : Bool) → not (not b) ≡ b
-not_twice true = refl
-not_twice false = refl
-
 module _ {g : Scene} {l : LaidArcs} {losses : List ℕ} {lines : List Line} {cells marks : List ℕ} {held : Incumbent} {room bound : ℕ} (given : Visitable g l losses lines cells marks held room bound) (long : length cells ≡ 512) {held₁ : Incumbent} (now : held₁ ≡ visit_added held) where
   -- the visit is counted, and nothing else is held
   counted : Holds g.table g.budget g.least g.held held₁

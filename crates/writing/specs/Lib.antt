@@ -1,2 +1,2 @@
--- What the functions that write text leave in their buffer.
+-- What is appended to a text.
 pub mod Wrote

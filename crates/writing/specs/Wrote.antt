@@ -1,10 +1,11 @@
--- Text written one piece after the other.
+-- A text, and what is appended to it.
 use Rattle.std.specs.Prelude.{ℕ, ◌+◌, ◌≡◌, List, ◌++◌, length, take, drop, replicate}
+use Rattle.std.proofs.Common.{arith}
 use Rattle.writing.specs.declared.text.Text.{Text}
 
 -- No text yet
 abbrev pub empty : Text
-empty = record { bytes = replicate 1024 0; count = 0 }
+empty = record { bytes = replicate 1024 0; count = 0; fits = omega arith }
 
 -- x is written after the text, and what follows is kept
 pub record Appends (before : Text) (x : List ℕ) (after : Text) : Type 0 where

@@ -1,7 +1,6 @@
 // A text in the making: words and numbers in decimal, one after the other.
 #![tactic(auto)]
 
-mod decimal;
 mod text;
 
 pub use text::Text;

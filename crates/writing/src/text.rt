@@ -1,18 +1,18 @@
 // A text by value.
 ghost use Rattle.std.specs.Prelude.{◌≡◌, ◌+◌, ◌≤◌, length, take};
-ghost use Rattle.diagram.specs.Printout.{decimal};
-ghost use Rattle.writing.specs.Wrote.{Appends, empty};
-
-use crate::decimal::Digits;
 
 // The first `count` bytes, in ASCII. What follows is left as it was.
 #[derive(Clone, Copy)]
 pub struct Text {
     pub bytes: [u8; 1024],
     pub count: usize,
+    pub ghost fits: { count ≤ 1024 },
 }
 
 impl Text {
+    ghost use Rattle.diagram.specs.Printout.{decimal};
+    ghost use Rattle.writing.specs.Wrote.{Appends, empty};
+
     // No text yet: all bytes are zeros.
     pub fn new() -> Text
         ensures { result ≡ empty }
@@ -36,18 +36,28 @@ impl Text {
     }
 
     // Appends a number in decimal. Whoever calls has room for 20 digits, which are enough for every number.
+    // The last digit is found first, so the digits are put into a room from its end, and appended.
     pub fn number(&mut self, n: u64)
         requires { self.old.count + 20 ≤ 1024 }
         ensures appends { Appends self.old (decimal n) self.new }
         ensures count { self.new.count ≤ self.old.count + 20 }
     {
-        let digits = Digits::of(n);
-        self.word(&digits.room[digits.first..]);
+        let mut room = [0u8; 20];
+        let mut first = 20;
+        let mut left = n;
+        loop {
+            let tenth = left / 10;
+            first -= 1;
+            room[first] = (48 + (left - 10 * tenth)) as u8;
+            if tenth == 0 {
+                return self.word(&room[first..]);
+            }
+            left = tenth;
+        }
     }
 
     // The bytes of the text.
     pub fn as_bytes(&self) -> &[u8]
-        requires { self.now.count ≤ 1024 }
         ensures { result.now ≡ take self.now.count self.now.bytes }
     {
         &self.bytes[..self.count]

@@ -6,7 +6,7 @@ use Rattle.decoding.proofs.table.decode.Goals as goal
 pub returns : goal.returns
 returns c =
     let found = c.choices_of-choices.ensures in
-    let copied = c.copy_records.ensures in
+    let copied = c.records_of.ensures in
     let entries = c.roots_of-roots.ensures in
     let parts : Parts c.args.file.now (record {
       variables = c.variable_count.result;
@@ -16,9 +16,9 @@ returns c =
       words = c.words_of-words.result;
       choice_positions = c.choices_of-choices.result.positions;
       kits = c.choices_of-choices.result.kits;
-      positions = c.copy_records.new.positions;
-      high = c.copy_records.new.high;
-      low = c.copy_records.new.low;
+      positions = c.records_of.result.positions;
+      high = c.records_of.result.high;
+      low = c.records_of.result.low;
       roots = c.roots_of-roots.result.count;
       nodes = c.roots_of-roots.result.nodes;
       rewards = c.roots_of-roots.result.rewards;

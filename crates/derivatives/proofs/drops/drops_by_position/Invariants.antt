@@ -5,4 +5,4 @@ use Rattle.derivatives.proofs.Summing.{Summed}
 use Rattle.derivatives.proofs.drops.drops_by_position.Given as goal
 
 abbrev pub invariant-loop-k : goal.invariant-loop-k
-invariant-loop-k l = Summed (lossy_of l.table l.marks l.arcs l.values l.paths) l.k l.drops
+invariant-loop-k l = Summed (lossy_of l.table l.valued l.paths) l.k l.drops

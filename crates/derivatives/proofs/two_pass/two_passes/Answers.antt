@@ -12,42 +12,30 @@ use Rattle.diagram.specs.Plans.{derivative}
 use Rattle.decoding.specs.Decoding.{table_in}
 use Rattle.decoding.proofs.Standing.{sequence-same, choice-position_in}
 use Rattle.arrays.specs.Arrays.{over}
-use Rattle.weighing.proofs.HeldRoots.{RootsHeld, roots-held}
-use Rattle.valuing.specs.Passes.{Marked}
-use Rattle.valuing.proofs.Bounding.{marked}
 use Rattle.valuing.proofs.Gaining.{losses_fit}
+use Rattle.valuing.proofs.Valuing.{value-held}
 use Rattle.derivatives.specs.Drops.{derivative_at}
 use Rattle.derivatives.proofs.Deriving.{root-fits, budget, losing, drops_are, drops-chosen, drops-all}
 use Rattle.derivatives.proofs.two_pass.two_passes.Goals as goal
 
 pub enter-requires : goal.enter-requires
 enter-requires c =
-    let holds : let t = c.args.table.now in Marked (table_in t) c.args.plan.now t.records t.positions t.high t.low c.value_plan-valued.new.arcs c.value_plan-valued.result.marks = let pre = c.requires in
-    let valued = c.value_plan-valued.ensures in
-    marked pre.sound _ pre.plan.0 pre.plan.1 valued.arcs valued.marks in
-    let roots_are : RootsHeld (table_in c.args.table.now) c.value_plan-valued.result.roots = roots-held c.requires.sound.valid c.value_plan-valued.ensures.roots in
-    let valued = c.value_plan-valued.ensures in
-    (roots_are.few, root-fits holds valued.in_force roots_are refl)
+    let valued = c.value_plan.ensures in
+    let at = value-held c.requires.sound c.requires.plan valued in
+    (at.roots.few, root-fits at.marked valued.in_force at.roots refl)
 
 pub pass_down-requires : goal.pass_down-requires
 pass_down-requires c =
-    let holds : let t = c.args.table.now in Marked (table_in t) c.args.plan.now t.records t.positions t.high t.low c.value_plan-valued.new.arcs c.value_plan-valued.result.marks = let pre = c.requires in
-    let valued = c.value_plan-valued.ensures in
-    marked pre.sound _ pre.plan.0 pre.plan.1 valued.arcs valued.marks in
-    let roots_are : RootsHeld (table_in c.args.table.now) c.value_plan-valued.result.roots = roots-held c.requires.sound.valid c.value_plan-valued.ensures.roots in
-    let valued = c.value_plan-valued.ensures in
-    let entered = c.enter.ensures in
-    (holds.size.1, (_, budget holds valued.in_force roots_are entered))
+    let valued = c.value_plan.ensures in
+    let at = value-held c.requires.sound c.requires.plan valued in
+    (at.marked.size.1, (_, budget at.marked valued.in_force at.roots c.enter.ensures))
 
 pub drops_by_position-drops-requires : goal.drops_by_position-drops-requires
 drops_by_position-drops-requires c =
-    let holds : let t = c.args.table.now in Marked (table_in t) c.args.plan.now t.records t.positions t.high t.low c.value_plan-valued.new.arcs c.value_plan-valued.result.marks = let pre = c.requires in
-    let valued = c.value_plan-valued.ensures in
-    marked pre.sound _ pre.plan.0 pre.plan.1 valued.arcs valued.marks in
-    let roots_are : RootsHeld (table_in c.args.table.now) c.value_plan-valued.result.roots = roots-held c.requires.sound.valid c.value_plan-valued.ensures.roots in
-    let valued = c.value_plan-valued.ensures in
+    let valued = c.value_plan.ensures in
+    let at = value-held c.requires.sound c.requires.plan valued in
     let monotone = c.requires.sound.valid.monotone in
-    record { losses = losses_fit holds valued.values monotone; sums = losing holds monotone valued.in_force valued.values roots_are c.enter.ensures c.pass_down.ensures refl }
+    record { losses = losses_fit at.marked valued.values monotone; sums = losing at.marked monotone valued.in_force valued.values at.roots c.enter.ensures c.pass_down.ensures refl }
 
 pub by_choice-requires : goal.by_choice-requires
 by_choice-requires c =
@@ -59,16 +47,13 @@ by_choice-requires c =
 
 pub returns : goal.returns
 returns c =
-    let holds : let t = c.args.table.now in Marked (table_in t) c.args.plan.now t.records t.positions t.high t.low c.value_plan-valued.new.arcs c.value_plan-valued.result.marks = let pre = c.requires in
-    let valued = c.value_plan-valued.ensures in
-    marked pre.sound _ pre.plan.0 pre.plan.1 valued.arcs valued.marks in
-    let roots_are : RootsHeld (table_in c.args.table.now) c.value_plan-valued.result.roots = roots-held c.requires.sound.valid c.value_plan-valued.ensures.roots in
-    let drops : c.drops_by_position-drops.result ≡ sequence (derivative_at (table_in c.args.table.now) c.args.plan.now) 0 64 = let valued = c.value_plan-valued.ensures in
-    c.drops_by_position-drops.ensures ∙ drops_are holds c.requires.sound.valid.monotone valued.in_force valued.values roots_are c.enter.ensures c.pass_down.ensures refl in
+    let valued = c.value_plan.ensures in
+    let at = value-held c.requires.sound c.requires.plan valued in
     let sound = c.requires.sound in
     let d = c.args.table.now in
     let t = table_in d in
     let p = c.args.plan.now in
+    let drops : c.drops_by_position-drops.result ≡ sequence (derivative_at t p) 0 64 = c.drops_by_position-drops.ensures ∙ drops_are at.marked sound.valid.monotone valued.in_force valued.values at.roots c.enter.ensures c.pass_down.ensures refl in
     let few : length t.variables < 64 = omega (arith, sound.valid.variables) in
     let chosen = drops-chosen t p few drops in
     let cells = c.drops_by_position-drops.result in
@@ -77,4 +62,4 @@ returns c =
     let long : length front ≡ d.choices = simp length-take (omega arith) in
     let picked : (k : ℕ) → k < d.choices → get_or cells (get_or front k 0) 0 ≡ derivative t p k = λ k h. rw (get_or-take d.choices d.choice_positions k 0 h) (let at = choice-position_in sound.held k h in chosen _ at.within at.is ∙ ap (derivative t p) at.number) in
     let same = sequence-same (λ (i : ℕ). get_or cells (get_or front i 0) 0) (derivative t p) 0 0 d.choices (λ k h. rw zero-add (picked k h)) in
-    record { bound = c.value_plan-valued.ensures.bound; drops = rw long at c.by_choice.ensures ∙ ap (λ (ds : List ℕ). over ds (replicate 20 0)) (same ∙ ap (sequence (derivative t p) 0) sound.held.choices ∙ drops-all t p c.requires.plan.0) }
+    record { bound = valued.bound; drops = rw long at c.by_choice.ensures ∙ ap (λ (ds : List ℕ). over ds (replicate 20 0)) (same ∙ ap (sequence (derivative t p) 0) sound.held.choices ∙ drops-all t p c.requires.plan.0) }

@@ -12,7 +12,7 @@ use Rattle.implication.specs.Nodes.{monotone_fault_in, cell}
 use Rattle.steps.specs.Steps.{fault_of}
 use Rattle.implication.proofs.Cells.{tested_one, tested_zero}
 use Rattle.implication.proofs.Pairing.{held-pairs, held-position, unmonotone_at, unmonotone_test}
-use Rattle.implication.proofs.Stacking.{start, ask, Drained, drained}
+use Rattle.implication.proofs.Stacking.{start, meeting, ask, Drained, drained}
 use Rattle.implication.proofs.monotone.monotone_fault.Goals as goal
 
 pub loop-k-init : goal.loop-k-init
@@ -33,8 +33,7 @@ meet-requires c = rw c.loop-k.invariant.1 c.loop-k.invariant.0.room
 
 pub drain-requires : goal.drain-requires
 drain-requires c =
-    let e = c.meet.ensures in
-    (_, _, ask c.loop-k.invariant.1 c.loop-k.invariant.0 (record { m_small = search rules; n_small = search rules; end = e.depth; cells = e.met; pushes = e.stack }))
+    (_, _, ask c.loop-k.invariant.1 c.loop-k.invariant.0 (meeting (search rules) (search rules) c.meet.ensures))
 
 pub overflow_add-result : goal.overflow_add-result
 overflow_add-result c = omega (arith, c.requires.few, c.requires.most, c.new-end.ensures, c.loop-k-test.true, c.word.ensures)
@@ -42,8 +41,7 @@ overflow_add-result c = omega (arith, c.requires.few, c.requires.most, c.new-end
 pub returns-then-has_met : goal.returns-then-has_met
 unfolding fault_of
 returns-then-has_met c =
-    let e = c.meet.ensures in
-    let found : Drained c.args.t.now c.drain.new.work.met c.drain.new.work.stack c.loop-k.k = drained c.requires c.loop-k-test.true c.asked_node-low.ensures c.asked_node-high.ensures c.loop-k.invariant.1 c.loop-k.invariant.0 (record { m_small = search rules; n_small = search rules; end = e.depth; cells = e.met; pushes = e.stack }) c.drain.ensures.kept in
+    let found : Drained c.args.t.now c.drain.new.work.met c.drain.new.work.stack c.loop-k.k = drained c.requires c.loop-k-test.true c.asked_node-low.ensures c.asked_node-high.ensures c.loop-k.invariant.1 c.loop-k.invariant.0 (search rules) (search rules) c.meet.ensures c.drain.ensures.kept c.drain.ensures.empty in
     let ends : c.has_met.result ≡ eqb (cell c.drain.new.work.met 1 0) 1 = c.has_met.ensures ∙ rw (c.new.ensures, c.new-in-loop-k.ensures) refl in
     let at = c.loop-k in
     let t = table_in c.args.t.now in
@@ -55,8 +53,7 @@ returns-then-has_met c =
 
 pub loop-k-preserved : goal.loop-k-preserved
 loop-k-preserved c =
-    let e = c.meet.ensures in
-    let found : Drained c.args.t.now c.drain.new.work.met c.drain.new.work.stack c.loop-k.k = drained c.requires c.loop-k-test.true c.asked_node-low.ensures c.asked_node-high.ensures c.loop-k.invariant.1 c.loop-k.invariant.0 (record { m_small = search rules; n_small = search rules; end = e.depth; cells = e.met; pushes = e.stack }) c.drain.ensures.kept in
+    let found : Drained c.args.t.now c.drain.new.work.met c.drain.new.work.stack c.loop-k.k = drained c.requires c.loop-k-test.true c.asked_node-low.ensures c.asked_node-high.ensures c.loop-k.invariant.1 c.loop-k.invariant.0 (search rules) (search rules) c.meet.ensures c.drain.ensures.kept c.drain.ensures.empty in
     let ends : c.has_met.result ≡ eqb (cell c.drain.new.work.met 1 0) 1 = c.has_met.ensures ∙ rw (c.new.ensures, c.new-in-loop-k.ensures) refl in
     let at = c.loop-k in
     let t = table_in c.args.t.now in

@@ -35,7 +35,7 @@ pick_arcs-requires c =
 
 pub returns : goal.returns
 returns c =
-    let roots = c.args.roots.now in
+    let roots = c.args.valued.now.roots in
     let forced = c.in_force.ensures in
     let brought = c.weigh_roots.ensures in
     record {

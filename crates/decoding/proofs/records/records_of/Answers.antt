@@ -1,11 +1,11 @@
--- `copy_records` meets its contract: each record is copied to its cells. Assumes nothing.
+-- `records_of` meets its contract: each record is copied to its cells. Assumes nothing.
 use Rattle.std.proofs.Common.{ℕ, List, ◌+◌, ◌≤◌, ◌<◌, ◌≡◌, arith, refl, ap, sym, ◌∙◌}
 use Rattle.diagram.specs.Words.{word_at, field_p, field_q, field_r}
 use Rattle.diagram.specs.Table.{Record, record_at, record_of, table_of, variable_count, record_count}
 use Rattle.decoding.specs.Nodes.{column, Shaped}
 use Rattle.decoding.proofs.Shape.{heading-records, record-at-word, record_past, shaped-formed}
 use Rattle.decoding.proofs.Columns.{fill_start, fill_on, fill_end}
-use Rattle.decoding.proofs.records.copy_records.Goals as goal
+use Rattle.decoding.proofs.records.records_of.Goals as goal
 
 -- what the word of record k says
 record Read (s : List ℕ) (k w : ℕ) : Type 0 where
@@ -37,26 +37,26 @@ past_at s e k h = record_past s k (omega (arith, e))
 pub loop-k-init : goal.loop-k-init
 loop-k-init c =
     let v = c.variable_count-v.ensures.count in
-    (fill_start (rw (c.fill.ensures.after, c.requires.zeros.0, v) refl), fill_start c.requires.zeros.1, fill_start c.requires.zeros.2)
+    (fill_start (rw v refl), fill_start refl, fill_start refl)
 
 pub store-requires : goal.store-requires
 store-requires c =
-    let read = read_at c.args.file.now c.requires.shaped c.loop-k.k (omega (arith, c.record_count-k-end.ensures.count)) c.variable_count-v.ensures.count c.word_at-w.ensures (omega (arith, c.from.ensures)) in
+    let read = read_at c.args.file.now c.requires c.loop-k.k (omega (arith, c.record_count-k-end.ensures.count)) c.variable_count-v.ensures.count c.word_at-w.ensures (omega (arith, c.from.ensures)) in
     (read.less, omega (arith, c.field_p.ensures, read.fits))
 
 pub store-requires-in-loop-k : goal.store-requires-in-loop-k
 store-requires-in-loop-k c =
-    let read = read_at c.args.file.now c.requires.shaped c.loop-k.k (omega (arith, c.record_count-k-end.ensures.count)) c.variable_count-v.ensures.count c.word_at-w.ensures (omega (arith, c.from.ensures)) in
+    let read = read_at c.args.file.now c.requires c.loop-k.k (omega (arith, c.record_count-k-end.ensures.count)) c.variable_count-v.ensures.count c.word_at-w.ensures (omega (arith, c.from.ensures)) in
     (read.less, omega (arith, c.field_q.ensures, read.fits))
 
 pub store-requires-in-loop-k-2 : goal.store-requires-in-loop-k-2
 store-requires-in-loop-k-2 c =
-    let read = read_at c.args.file.now c.requires.shaped c.loop-k.k (omega (arith, c.record_count-k-end.ensures.count)) c.variable_count-v.ensures.count c.word_at-w.ensures (omega (arith, c.from.ensures)) in
+    let read = read_at c.args.file.now c.requires c.loop-k.k (omega (arith, c.record_count-k-end.ensures.count)) c.variable_count-v.ensures.count c.word_at-w.ensures (omega (arith, c.from.ensures)) in
     (read.less, omega (arith, c.field_r.ensures, read.fits))
 
 pub loop-k-preserved : goal.loop-k-preserved
 loop-k-preserved c =
-    let read = read_at c.args.file.now c.requires.shaped c.loop-k.k (omega (arith, c.record_count-k-end.ensures.count)) c.variable_count-v.ensures.count c.word_at-w.ensures (omega (arith, c.from.ensures)) in
+    let read = read_at c.args.file.now c.requires c.loop-k.k (omega (arith, c.record_count-k-end.ensures.count)) c.variable_count-v.ensures.count c.word_at-w.ensures (omega (arith, c.from.ensures)) in
     let inv = c.loop-k.invariant in (
       fill_on c.field_p.result inv.0 read.less c.store.ensures (c.field_p.ensures ∙ read.position),
       fill_on c.field_q.result inv.1 read.less c.store-in-loop-k.ensures (c.field_q.ensures ∙ read.hi),
@@ -68,7 +68,7 @@ unfolding column
 returns c =
     let inv = c.loop-k.invariant in
     let count = c.record_count-k-end.ensures.count in
-    let few = (heading-records _ c.requires.shaped.heading).1 in
+    let few = (heading-records _ c.requires.heading).1 in
     let end : c.loop-k.k ≡ c.record_count-k-end.result = omega arith in
     let past = past_at c.args.file.now count in
     record {
