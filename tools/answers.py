@@ -2,7 +2,7 @@
 """Turns the proof files that walk by places (`Proof.antt`, of the older form) of a crate to `Invariants.antt` and `Answers.antt`. usage: tools/answers.py NAME..
 
 For each crate it asks `rt check --generated DIR --old-names` for the older and the newer name of each goal, step and place. Answers that the check finds alone go.
-What it leaves, and each old file, stands in /tmp/answers/NAME: the check says what is still open."""
+What it leaves, and each old file, stands in ROOM/NAME: the check says what is still open."""
 
 import json
 import os
@@ -10,6 +10,9 @@ import re
 import shutil
 import subprocess
 import sys
+import tempfile
+
+ROOM = os.path.join(tempfile.gettempdir(), "answers")
 
 ALONE = {"omega arith", "search rules", "tt", "refl", "(refl, refl)", "(omega arith, omega arith)", "(refl, omega arith)", "(tt, tt)"}
 NAME = r"[A-Za-z_μ][\w'₀-₉μ-]*"
@@ -229,7 +232,7 @@ def convert(crate, rel, it):
     where = os.path.join("crates", crate, "proofs", rel)
     text = open(os.path.join(where, "Proof.antt"), encoding="utf-8").read()
     fn, ghost = Fn(it), has_ghost(crate, rel)
-    keep = os.path.join("/tmp/answers", crate, rel)
+    keep = os.path.join(ROOM, crate, rel)
     os.makedirs(keep, exist_ok=True)
     shutil.copy(os.path.join(where, "Proof.antt"), os.path.join(keep, "Proof.antt"))
     module = "Rattle." + crate + ".proofs." + rel.replace("/", ".")
@@ -374,9 +377,9 @@ def trim(path):
 
 def main(names):
     for crate in names:
-        at = f"/tmp/answers/{crate}-names"
+        at = os.path.join(ROOM, f"{crate}-names")
         shutil.rmtree(at, ignore_errors=True)
-        os.makedirs("/tmp/answers", exist_ok=True)
+        os.makedirs(ROOM, exist_ok=True)
         r = subprocess.run(["rt", "check", "--generated", at, "--old-names"], cwd=os.path.join("crates", crate), stdout=subprocess.PIPE, stderr=subprocess.STDOUT, text=True, errors="replace")
         table = os.path.join(at, "names.json")
         if not os.path.exists(table):
