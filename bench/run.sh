@@ -12,11 +12,11 @@ set -- "$@" ''
 # writing, whose text is laid out as C does.
 printer() {
     mkdir -p "$1/crates/printer/src"
-    if grep -qr 'fn put_decimal' "$1/crates/writing/src"; then
-        cp bench/printer_before.rt.txt "$1/crates/printer/src/lib.rt"
-    else
+    if [ -e "$1/crates/writing/src/text.rt" ]; then
         cp bench/printer.rt.txt "$1/crates/printer/src/lib.rt"
         sed -i 's/^pub struct Text /#[repr(C)]\n&/' "$1/crates/writing/src/text.rt"
+    else
+        cp bench/printer_before.rt.txt "$1/crates/printer/src/lib.rt"
     fi
     echo 'printer staticlib: diagram writing' >>"$1/crates.txt"
     (cd "$1/crates/printer" && rt lib >/dev/null)

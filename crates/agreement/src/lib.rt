@@ -7,4 +7,4 @@ mod tally;
 
 pub use refused::Refused;
 pub use service::Service;
-pub use tally::Tally;
+pub use tally::{Counts, Tally};

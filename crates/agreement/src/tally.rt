@@ -5,20 +5,20 @@ use std::fmt;
 
 // Of a service's requests: how many were tried, how many of these agree, and how many of these are answered and not refused.
 #[derive(Clone, Copy, Default)]
-struct Counts {
-    tried: usize,
-    agreed: usize,
-    answered: usize,
+pub struct Counts {
+    pub tried: usize,
+    pub agreed: usize,
+    pub answered: usize,
 }
 
 // The counts of each service; for each number the requests that both refuse with it; and how many differ, with the first of these by
 // service and table.
 #[derive(Clone, Copy, Default)]
 pub struct Tally {
-    services: [Counts; 5],
-    refused: [usize; 33],
-    differ: usize,
-    first: [Option<(Service, usize)>; 8],
+    pub services: [Counts; 5],
+    pub refused: [usize; 33],
+    pub differ: usize,
+    pub first: [Option<(Service, usize)>; 8],
 }
 
 impl Tally {

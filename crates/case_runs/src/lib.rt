@@ -17,9 +17,7 @@ use sweep::sweep;
 use terms::Refusal;
 
 // Runs a service, and writes what it answers.
-pub fn run(rt: &impl Print, line: &Line) -> io::Result<()> {
-    let file = line.file();
-    let plan = line.plan();
+pub fn run(rt: &impl Print, line: Line, file: &[u8], plan: &[u8]) -> io::Result<()> {
     let kits = line.kits;
     let percent = line.percent;
     match line.service {
@@ -54,7 +52,7 @@ pub fn run(rt: &impl Print, line: &Line) -> io::Result<()> {
 // Lends a buffer for drops, of the size that a line says.
 fn lend_drops<F: FnOnce(&mut [u64]) -> Result<Answer, Refusal>>(
     rt: &impl Print,
-    line: &Line,
+    line: Line,
     ask: F,
 ) -> io::Result<()>
     requires { F.IsAlwaysCallable ask }
@@ -65,7 +63,7 @@ fn lend_drops<F: FnOnce(&mut [u64]) -> Result<Answer, Refusal>>(
 // Lends a buffer for marks, of the size that a line says.
 fn lend_plan<F: FnOnce(&mut [u8]) -> Result<Answer, Refusal>>(
     rt: &impl Print,
-    line: &Line,
+    line: Line,
     ask: F,
 ) -> io::Result<()>
     requires { F.IsAlwaysCallable ask }

@@ -8,7 +8,7 @@
 // service asked of the opened table.
 #![tactic(auto)]
 
-use case_lines::Line;
+use case_lines::{Buffers, Line};
 use case_runs::run;
 use full_reads::read_full;
 use std::io;
@@ -16,34 +16,45 @@ use std::io;
 fn main(rt: HostRuntime) -> io::Result<()> {
     let mut chunk = [0u8; 4096];
     let mut line = Line::new();
+    let mut buffers = Buffers::new();
     for _ in 0..100000 {
         let n = read_full(&mut rt.reader(), &mut chunk)?;
         if n == 0 {
             break;
         }
-        feed(&rt, &mut line, &chunk[..n])?;
+        feed(&rt, &mut line, &mut buffers, &chunk[..n])?;
     }
     Ok(())
 }
 
 // Takes some bytes of the input.
-fn feed(rt: &impl Print, line: &mut Line, bytes: &[u8]) -> io::Result<()> {
+fn feed(rt: &impl Print, line: &mut Line, buffers: &mut Buffers, bytes: &[u8]) -> io::Result<()> {
     for b in bytes {
-        step(rt, line, *b)?;
+        step(rt, line, buffers, *b)?;
     }
     Ok(())
 }
 
 // Takes one byte of the input. The end of a line runs its case.
-fn step(rt: &impl Print, line: &mut Line, b: u8) -> io::Result<()> {
+fn step(rt: &impl Print, line: &mut Line, buffers: &mut Buffers, b: u8) -> io::Result<()> {
     if line.in_label() {
-        rt.write_all(&[b])?;
-        line.push(b);
+        show(rt, b)?;
     } else if b == b'\n' {
-        run(rt, line)?;
-        *line = Line::new();
-    } else {
-        line.push(b);
+        return end(rt, line, buffers);
     }
+    line.push(b, buffers);
+    Ok(())
+}
+
+// Writes a byte of the label back.
+fn show(rt: &impl Print, b: u8) -> io::Result<()> {
+    rt.write_all(&[b])
+}
+
+// Runs the case of a line, and begins the next.
+fn end(rt: &impl Print, line: &mut Line, buffers: &mut Buffers) -> io::Result<()> {
+    run(rt, *line, buffers.file(), buffers.plan())?;
+    *line = Line::new();
+    buffers.clear();
     Ok(())
 }

@@ -5,7 +5,7 @@ use native.Mathlib.Nat.{zero-add}
 use native.Mathlib.Numerals.{add-one}
 use native.Mathlib.Omega.{arith}
 use mathlib.Core.Path.{◌≡◌, refl, ap, sym, ◌∙◌}
-use mathlib.Core.List.{List, ◌∷◌, ◌++◌}
+use mathlib.Core.List.{List, [], ◌∷◌, ◌++◌}
 use lib.ListN.{length, get_or, set, take, replicate, length-set, length-take}
 use lib.Seq.{take-suc-set, get_or-take}
 use Rattle.diagram.specs.Table.{Record, sequence, record_at}
@@ -14,6 +14,15 @@ use Rattle.diagram.proofs.Places.{sequence-length, sequence-at, sequence-snoc}
 use Rattle.decoding.specs.Nodes.{column, Filled, Positioned}
 use Rattle.decoding.specs.Decoding.{pad_to}
 use Rattle.decoding.proofs.Padding.{pad_next}
+
+pub fill_ends : {end : ℕ} {f : ℕ → ℕ} {cells : List ℕ} (before : List ℕ) (x : ℕ) → length before ≡ 256 → cells ≡ set (set before 0 x) 1 x → x ≡ end → Filled end f cells 0
+unfolding sequence
+fill_ends {end} {f} {cells} before x h e y = rw (e, y) (ends before h)
+  where
+    ends : (l : List ℕ) → length l ≡ 256 → Filled end f (set (set l 0 end) 1 end) 0
+    ends [] h = absurd (omega arith)
+    ends (a ∷ []) h = absurd (omega arith)
+    ends (a ∷ b ∷ l) h = record { size = h; front = refl }
 
 -- an array that holds the ends' number everywhere has it in their cells
 pub fill_alike : {end : ℕ} {f : ℕ → ℕ} (x : ℕ) → x ≡ end → Filled end f (replicate 256 x) 0
@@ -38,6 +47,10 @@ pub fill_start : {end : ℕ} {f : ℕ → ℕ} {cells : List ℕ} → cells ≡ 
 unfolding sequence pad_to
 fill_start e = rw e (record { filled = record { size = refl; front = refl }; rest = refl })
 
+-- the ends' cells hold a number that is theirs
+pub fill_from : {end : ℕ} {f : ℕ → ℕ} {cells : List ℕ} (x y : ℕ) → cells ≡ x ∷ y ∷ replicate 254 0 → x ≡ end → y ≡ end → FilledTo end f cells 0
+fill_from x y e p q = fill_start (rw (p, q) at e)
+
 pub fill_on : {end : ℕ} {f : ℕ → ℕ} {cells before : List ℕ} {k : ℕ} (x : ℕ) → FilledTo end f before k → k < 254 → cells ≡ set before (k + 2) x → x ≡ f k → FilledTo end f cells (k + 1)
 fill_on {before = before} {k} x to h e y =
     let on : k + 1 + 2 ≡ suc (k + 2) = omega arith in
@@ -60,11 +73,14 @@ zeros_past f i (suc n) j none =
     let all : suc n + j ≡ suc (n + j) = omega arith in
     rw all (ap (λ (l : List ℕ). f i ∷ l) (zeros_past f (suc i) n j (λ k h. none k (omega arith))))
 
-pub fill_end : {end : ℕ} {f : ℕ → ℕ} {cells : List ℕ} {n : ℕ} → FilledTo end f cells n → n ≤ 254 → ((k : ℕ) → n ≤ k → f k ≡ 0) → cells ≡ end ∷ end ∷ sequence f 0 254
+pub fill_cleared : {end : ℕ} {f : ℕ → ℕ} {before cells : List ℕ} {n : ℕ} → Filled end f before n → n ≤ 254 → cells ≡ pad_to 256 (take (n + 2) before) → ((k : ℕ) → n ≤ k → f k ≡ 0) → cells ≡ end ∷ end ∷ sequence f 0 254
 unfolding pad_to
-fill_end {end} {f} {n = n} to few none =
+fill_cleared {end} {f} {n} filled few e none =
     let all : n + (256 - suc (suc n)) ≡ 254 = omega arith in
-    to.rest ∙ rw (to.filled.front, sequence-length f 0 n) (ap (λ (l : List ℕ). end ∷ end ∷ l) (zeros_past f 0 n (256 - suc (suc n)) (λ k h. none k (omega arith)) ∙ rw all refl))
+    e ∙ rw (filled.front, sequence-length f 0 n) (ap (λ (l : List ℕ). end ∷ end ∷ l) (zeros_past f 0 n (256 - suc (suc n)) (λ k h. none k (omega arith)) ∙ rw all refl))
+
+pub fill_end : {end : ℕ} {f : ℕ → ℕ} {cells : List ℕ} {n : ℕ} → FilledTo end f cells n → n ≤ 254 → ((k : ℕ) → n ≤ k → f k ≡ 0) → cells ≡ end ∷ end ∷ sequence f 0 254
+fill_end to few none = fill_cleared to.filled few to.rest none
 
 -- ---------------------------------------------------------------------------
 -- The array of positions

@@ -96,3 +96,22 @@ pub record Valid (t : Table) : Type 0 where
 pub record Sound (d : Decoded) : Type 0 where
   pub held : Held d
   pub valid : Valid (table_in d)
+
+-- The table of no file: zeros everywhere
+unfoldable pub empty_table : Decoded
+empty_table =
+    record {
+      variables = 0;
+      records = 0;
+      choices = 0;
+      scale = 0;
+      words = replicate 64 0;
+      choice_positions = replicate 20 0;
+      kits = replicate 20 0;
+      positions = replicate 256 0;
+      high = replicate 256 0;
+      low = replicate 256 0;
+      roots = 0;
+      nodes = replicate 16 0;
+      rewards = replicate 16 0;
+    }

@@ -11,5 +11,5 @@ mod variables;
 pub use heading::{record_count, root_word_count, variable_count};
 pub use records::{child_of, position_of, store};
 pub use roots::{Root, root_at, root_count};
-pub use table::{Decoded, decode};
+pub use table::{Decoded, decode, empty};
 pub use variables::{is_choice, is_choice_at};

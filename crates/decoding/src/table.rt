@@ -6,7 +6,7 @@ ghost use Rattle.diagram.specs.Words.{word_at};
 ghost use Rattle.diagram.specs.Table.{sequence, variable_count, table_of, choice_count};
 ghost use Rattle.diagram.specs.Checks.{root_fault};
 ghost use Rattle.decoding.specs.Nodes.{Shaped};
-ghost use Rattle.decoding.specs.Decoding.{pad_to, table_in, Held};
+ghost use Rattle.decoding.specs.Decoding.{pad_to, table_in, Held, empty_table};
 
 use crate::choices::{Choices, choices_of};
 use crate::heading::{record_count, variable_count};
@@ -72,5 +72,27 @@ pub fn decode(file: &[u8], scale: u64) -> Decoded
         roots,
         nodes,
         rewards,
+    }
+}
+
+// The table of no file: zeros everywhere.
+#[tactic(auto, unfolding(crate::specs::Decoding::empty_table))]
+pub fn empty() -> Decoded
+    ensures { result ≡ empty_table }
+{
+    Decoded {
+        variables: 0,
+        records: 0,
+        choices: 0,
+        scale: 0,
+        words: [0; 64],
+        choice_positions: [0; 20],
+        kits: [0; 20],
+        positions: [0; 256],
+        high: [0; 256],
+        low: [0; 256],
+        roots: 0,
+        nodes: [0; 16],
+        rewards: [0; 16],
     }
 }

@@ -6,7 +6,7 @@ use native.Mathlib.Omega.{arith}
 use mathlib.Core.Path.{◌≡◌, refl, ◌∙◌}
 use mathlib.Core.Logic.{⊎_elim}
 use mathlib.Core.List.{List}
-use lib.ListN.{get_or}
+use lib.ListN.{length, get_or, length-set}
 use Rattle.layers.specs.declared.arcs.LaidArcs.{LaidArcs}
 use Rattle.layers.specs.Layers.{Sized, flow_sum, inflow, put, cross_node, cross_nodes, own_node, own_nodes, drop_sum, leave_node, leave_nodes}
 
@@ -141,3 +141,14 @@ module _ (from : ℕ) (cells₀ : List ℕ) where
       let one : i + 1 - from ≡ suc (i - from) = omega arith in
       let here : from + (i - from) ≡ i = omega arith in
       rw (one, here, ← e, ← ew, ← er) e'
+
+-- ---------------------------------------------------------------------------
+-- Lengths
+
+pub put-length : (cells : List ℕ) (i x y : ℕ) → length (put cells i x y) ≡ length cells
+put-length cells i x y = simp length-set
+
+pub crossed_length : (l : LaidArcs) (i n : ℕ) (cells : List ℕ) → length (cross_nodes l i n cells) ≡ length cells
+unfolding cross_nodes cross_node
+crossed_length l i zero cells = refl
+crossed_length l i (suc n) cells = simp length-set (crossed_length l i n cells)

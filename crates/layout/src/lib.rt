@@ -36,12 +36,11 @@ pub fn arrange(table: &Decoded, plan: &[u8]) -> Layout
     let mut valued = PlanValue::ZEROS;
     value_plan(table, plan, &mut valued);
     let nodes = order_records(table.records, table.variables, &table.positions);
-    let laid = lay_arcs(table, &valued, &nodes.list);
     let lost = losses(table.records, &table.low, &valued.arcs, &valued.values);
     Layout {
         bound: valued.bound,
         ends: nodes.starts,
-        arcs: laid,
+        arcs: lay_arcs(table, &valued, &nodes.list),
         losses: losses_by_rank(table.records, &nodes.list, &lost),
     }
 }

@@ -2,5 +2,7 @@
 #![tactic(auto)]
 
 mod lay;
+mod open;
 
-pub use lay::{Line, Lines};
+pub use lay::{Line, Lines, mark_line};
+pub use open::{OpenLines, open_lines};

@@ -1,5 +1,5 @@
 // The words of a table file.
-ghost use Rattle.std.specs.Prelude.{◌≡◌, eqb};
+ghost use Rattle.std.specs.Prelude.{◌≡◌, ◌/◌, ◌%◌, eqb};
 ghost use Rattle.made_files.specs.Words.{kind_number};
 
 // The kinds that the words of a table have.
@@ -35,6 +35,21 @@ impl Word {
         }
     }
 
+    // The fields of a number, of which the lower 32 bits count.
+    pub fn of(number: usize) -> Word
+        ensures kind { result.kind ≡ number / 268435456 % 16 }
+        ensures p { result.p ≡ number / 4194304 % 64 }
+        ensures q { result.q ≡ number / 2048 % 2048 }
+        ensures r { result.r ≡ number % 2048 }
+    {
+        Word {
+            kind: (number >> 28) % 16,
+            p: (number >> 22) % 64,
+            q: (number >> 11) % 2048,
+            r: number % 2048,
+        }
+    }
+
     // The number of the fields, each cut to its width.
     pub fn number(&self) -> u32 {
         let upper = ((self.kind % 16) << 28) + ((self.p % 64) << 22);
@@ -51,12 +66,6 @@ impl Word {
 
 impl From<u32> for Word {
     fn from(number: u32) -> Word {
-        let number = number as usize;
-        Word {
-            kind: number >> 28,
-            p: (number >> 22) & 63,
-            q: (number >> 11) & 2047,
-            r: number & 2047,
-        }
+        Word::of(number as usize)
     }
 }

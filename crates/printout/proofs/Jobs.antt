@@ -6,7 +6,7 @@ use native.Mathlib.Omega.{arith}
 use mathlib.Core.Path.{◌≡◌, refl, ap, sym, ◌∙◌}
 use mathlib.Core.List.{List, ◌++◌}
 use mathlib.Core.Logic.{by_cases}
-use lib.ListN.{length, take, drop, replicate, take-append-drop}
+use lib.ListN.{length, take, drop, replicate, length-take, take-append-drop}
 use lib.Seq.{length-take-le, take-length, take_all}
 use Rattle.std.proofs.lemmas.List.{take-replicate}
 use mathlib.Core.Bool.{true, false}
@@ -34,7 +34,7 @@ use Rattle.reading.proofs.Outcomes.{table_passed, table-choices, table-reading}
 use Rattle.search.specs.declared.answer.Finding.{Finding}
 use Rattle.search.specs.Answer.{search_of}
 use Rattle.writing.specs.declared.text.Text.{Text}
-use Rattle.writing.specs.Wrote.{Appends, empty}
+use Rattle.writing.specs.Wrote.{Wrote, Appends, empty}
 use Rattle.printout.specs.Found.{job_text}
 use Rattle.text.specs.Lines.{table_text, found_text, full_text}
 
@@ -137,3 +137,11 @@ appended_within {t} w = (omega (arith, w.count), t.fits)
 -- and is followed by zeros
 pub appended_all : {t : Text} {x : List ℕ} → Appends empty x t → t.bytes ≡ x ++ replicate (1024 - t.count) 0
 appended_all {t} w = sym (take-append-drop t.count t.bytes) ∙ rw (w.text, w.rest, drop-replicate t.count 1024 0) refl
+
+-- what is written from the start ends within the buffer
+pub wrote_within : {a b : List ℕ} {j : ℕ} {x : List ℕ} → Wrote a 0 b j x → j ≤ length a
+wrote_within {b = b} {j} w = omega (arith, w.count, w.size, ap length w.text, length-take j b)
+
+-- what is written from the start of zeros is followed by zeros
+pub wrote_all : (n v : ℕ) {b : List ℕ} {j : ℕ} {x : List ℕ} → Wrote (replicate n v) 0 b j x → v ≡ 0 → b ≡ x ++ replicate (n - j) 0
+wrote_all n v {b} {j} w e = sym (take-append-drop j b) ∙ rw (w.text, w.rest, drop-replicate j n v, e) refl

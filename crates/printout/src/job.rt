@@ -5,7 +5,7 @@ ghost use Rattle.printout.specs.Found.{job_text};
 ghost use Rattle.writing.specs.Wrote.{Appends, empty};
 
 use crate::found::find;
-use text::{put_plan, put_refusal};
+use text::{append_plan, append_refusal};
 use writing::Text;
 
 // The most bytes that are read.
@@ -36,7 +36,7 @@ fn put_job(text: &mut Text, input: &[u8])
     ensures { Appends empty (job_text input.now) text.new }
 {
     match find(input) {
-        Ok(found) => put_plan(text, found.shown, &found.plan.marks[..found.plan.count]),
-        Err(refusal) => put_refusal(text, refusal),
+        Ok(found) => append_plan(text, found.shown, &found.plan.marks[..found.plan.count]),
+        Err(refusal) => append_refusal(text, refusal),
     }
 }

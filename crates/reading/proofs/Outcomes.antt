@@ -23,6 +23,11 @@ use Rattle.decoding.proofs.Standing.{variables_in_lem, records_in_lem}
 use Rattle.implication.specs.Nodes.{Checkable}
 use Rattle.reading.specs.Answer.{numbers_in, Reads, shape_checks}
 
+-- the four numbers of an accepted file
+pub summary_is : (s : List ℕ) {v n c x : ℕ} → v ≡ variable_count s → n ≡ record_count s → c ≡ choice_count (table_of s).variables → x ≡ scale (table_of s) → answered (record { variables = v; records = n; choices = c; scale = x }) ≡ answered (reading s)
+unfolding reading
+summary_is s ev en ec ex = rw (ev, en, ec, ex)
+
 -- ---------------------------------------------------------------------------
 -- Reading after the checks 11 to 17, 26 and 27
 

@@ -25,12 +25,24 @@ above_fault limit x = fault_of (place_zero (ltb limit x))
 abbrev pub equal_check : (number : ℕ) → ℕ → ℕ → Check
 equal_check number x y = record { number = number; fault = λ _. place_zero (not (eqb x y)) }
 
--- What 21 and 22 of the score, whose plan has to be full, find of a plan for a number of choices
-unfoldable pub full_plan_finding : (plan : List ℕ) → (choices : ℕ) → Outcome Unit
-full_plan_finding p n =
-    finding (equal_check 21 (length p) n ∷ record { number = 22; fault = full_plan_fault p } ∷ []) []
+-- 21 and 22, of a plan for a number of choices
+abbrev pub plan_list : (plan : List ℕ) → (choices : ℕ) → List Check
+plan_list p n = equal_check 21 (length p) n ∷ record { number = 22; fault = plan_mark_fault p } ∷ []
 
--- What 21 to 25 find of what comes with a file that has a number of choices
+-- The same of the score, whose plan has to be full
+abbrev pub full_plan_list : (plan : List ℕ) → (choices : ℕ) → List Check
+full_plan_list p n = equal_check 21 (length p) n ∷ record { number = 22; fault = full_plan_fault p } ∷ []
+
+-- 21 to 25, of what comes with a file that has a number of choices
+abbrev pub request_list : (plan : List ℕ) → (budget percent size choices : ℕ) → List Check
+request_list p budget percent size n = plan_list p n ++ (percent_checks percent ++ budget_checks budget ++ equal_check 25 size n ∷ [])
+
+-- What they find
+unfoldable pub plan_finding : (plan : List ℕ) → (choices : ℕ) → Outcome Unit
+plan_finding p n = finding (plan_list p n) []
+
+unfoldable pub full_plan_finding : (plan : List ℕ) → (choices : ℕ) → Outcome Unit
+full_plan_finding p n = finding (full_plan_list p n) []
+
 unfoldable pub request_finding : (plan : List ℕ) → (budget percent size choices : ℕ) → Outcome Unit
-request_finding p budget percent size n =
-    finding (equal_check 21 (length p) n ∷ record { number = 22; fault = plan_mark_fault p } ∷ percent_checks percent ++ budget_checks budget ++ equal_check 25 size n ∷ []) []
+request_finding p budget percent size n = finding (request_list p budget percent size n) []

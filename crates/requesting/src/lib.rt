@@ -6,7 +6,7 @@ mod plans;
 ghost use Rattle.std.specs.Prelude.{◌≡◌};
 ghost use Rattle.steps.specs.Steps.{outcome_by};
 ghost use Rattle.reading.specs.Answer.{Reads};
-ghost use Rattle.requesting.specs.Request.{request_outcome, request_finding, full_plan_finding, unequal_fault, above_fault};
+ghost use Rattle.requesting.specs.Request.{request_outcome, request_finding, plan_finding, full_plan_finding, unequal_fault, above_fault};
 
 use decoding::Decoded;
 use plans::{full_plan_fault, mark_fault};
@@ -30,7 +30,7 @@ pub fn accept(
 }
 
 // 21 to 25, of what comes with a file that has a number of choices.
-#[tactic(auto, using(steps::proofs::Stepping::found), unfolding(diagram::specs::Services::checked, terms::specs::Numbers::reason_number, steps::specs::Steps::outcome_by, diagram::specs::Checks::percent_fault, diagram::specs::Checks::budget_fault, crate::specs::Request::request_finding))]
+#[tactic(auto, using(crate::proofs::Checking::parts, steps::proofs::Stepping::found), unfolding(terms::specs::Numbers::reason_number, steps::specs::Steps::outcome_by))]
 fn check_request(
     plan: &[u8],
     budget: u32,
@@ -40,11 +40,19 @@ fn check_request(
 ) -> Result<(), Refusal>
     ensures { outcome_by (λ _. tt) result ≡ request_finding plan.now budget percent size choices }
 {
-    refuse_at(Reason::PlanLength, unequal(plan.len(), choices))?;
-    refuse_at(Reason::Mark, mark_fault(plan))?;
+    check_plan(plan, choices)?;
     refuse_at(Reason::Percentage, above(MOST_PERCENT, percent))?;
     refuse_at(Reason::Budget, above(MOST_BUDGET, budget))?;
     refuse_at(Reason::Buffer, unequal(size, choices))
+}
+
+// 21 and 22.
+#[tactic(auto, using(steps::proofs::Stepping::found), unfolding(diagram::specs::Services::checked, terms::specs::Numbers::reason_number, steps::specs::Steps::outcome_by, crate::specs::Request::plan_finding))]
+fn check_plan(plan: &[u8], choices: usize) -> Result<(), Refusal>
+    ensures { outcome_by (λ _. tt) result ≡ plan_finding plan.now choices }
+{
+    refuse_at(Reason::PlanLength, unequal(plan.len(), choices))?;
+    refuse_at(Reason::Mark, mark_fault(plan))
 }
 
 // 21 and 22 of the score, whose plan has to be full.

@@ -18,6 +18,8 @@ pub fn score(file: &[u8], plan: &[u8]) -> Result<u64, Refusal>
     ensures { outcome_of result ≡ score_outcome file.now plan.now }
 {
     let table = read_table(file)?;
-    check_full_plan(plan, table.choices)?;
-    Ok(upper_bound(&table, plan))
+    match check_full_plan(plan, table.choices) {
+        Ok(()) => Ok(upper_bound(&table, plan)),
+        Err(refused) => Err(refused),
+    }
 }

@@ -5,7 +5,7 @@ use native.Mathlib.Omega.{arith}
 use mathlib.Core.Path.{◌≡◌, refl, sym, ◌∙◌}
 use mathlib.Core.List.{List}
 use mathlib.Core.Option.{Option, none, some}
-use lib.ListN.{length, take, replicate}
+use lib.ListN.{length, take, replicate, length-append, length-replicate}
 use lib.Pow.{pow_pos}
 use lib.Seq.{take-append_seam}
 use Rattle.diagram.specs.Table.{table_of}
@@ -18,7 +18,7 @@ use Rattle.terms.specs.declared.refusal.Refusal.{Refusal}
 use Rattle.terms.specs.declared.refusal.Reason.{Reason}
 use Rattle.terms.specs.Numbers.{reason_number}
 use Rattle.steps.specs.Steps.{outcome_by}
-use Rattle.reading.proofs.Accepted.{passed_formed, passed_monotone}
+use Rattle.reading.proofs.Accepted.{passed_choices, passed_formed, passed_monotone}
 use Rattle.rule.proofs.Visiting.{visited-first, visits-bounded}
 use Rattle.requesting.specs.Request.{request_outcome}
 use Rattle.requesting.proofs.Requests.{Proper, proper, search_refused, search_answered}
@@ -72,6 +72,16 @@ module _ (s p held : List ℕ) (budget percent : ℕ) where
         go (some b) q =
             let holding = searched.holds.something b q in
             absurd (omega (arith, f, holding.room, holding.within))
+
+    -- the plan held has 20 marks, where one is held
+    pub held-long : (h.room ≡ 0 → ⊥) → length h.marks ≡ 20
+    held-long more = go (visits.visited (table_of s) budget percent p).held refl
+      where
+        go : (o : Option (List ℕ)) → (visits.visited (table_of s) budget percent p).held ≡ o → length h.marks ≡ 20
+        go none q = absurd (more (searched.holds.nothing q).1)
+        go (some b) q =
+            let holding = searched.holds.something b q in
+            rw (holding.plan, length-append, length-replicate) (omega (arith, holding.size, passed_choices is_proper.passed))
 
     -- else the plan held, with its score and the visits
     pub search_found : (h.room ≡ 0 → ⊥) → {out : List ℕ} → out ≡ take (length held) h.marks → {x v : ℕ} → x ≡ h.cutoff → v ≡ h.visits → Promised (Ok (record { score = x; visits = v })) out

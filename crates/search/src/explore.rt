@@ -10,7 +10,7 @@ use cost::cost_of;
 use decoding::Decoded;
 use incumbent::Incumbent;
 use layers::ROOT_CELL;
-use layout::Layout;
+use layout::{Layout, arrange};
 use lines::Lines;
 use terms::Plan;
 use visiting::{State, visit};
@@ -23,8 +23,19 @@ pub struct Limits {
     pub least: u64,
 }
 
-// What is held and counted after the search of an accepted table from a plan that the checks 21 and 22 let through. The layout is
-// theirs.
+// What is held and counted after the search of an accepted table from a plan that the checks 21 and 22 let through. Apart from `search`,
+// so that only a request that they let through has room for a layout. `search` has the least score that passes from `least_passing`.
+pub fn explore_plan(table: &Decoded, plan: &[u8], limits: Limits) -> Incumbent
+    requires sound { Sound table.now }
+    requires plan { Legal table.now plan.now }
+    requires least { (limits.budget ≤ 10020) × ((percent : ℕ) × LeastPassing (table_in table.now) percent limits.least) }
+    ensures { SearchedWithin (table_in table.now) plan.now limits result }
+{
+    let layout = arrange(table, plan);
+    explore(table, &layout, plan, limits)
+}
+
+// The same over the layout of the table from the plan, as `explore_plan` hands it in.
 pub fn explore(table: &Decoded, layout: &Layout, plan: &[u8], limits: Limits) -> Incumbent
     requires sound { Sound table.now }
     requires plan { Legal table.now plan.now }

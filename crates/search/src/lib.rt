@@ -10,8 +10,7 @@ ghost use Rattle.diagram.specs.Services.{search_outcome, search_buffer};
 ghost use Rattle.search.specs.Answer.{search_of, visits_of};
 
 pub use answer::Finding;
-use explore::{Limits, explore};
-use layout::arrange;
+use explore::{Limits, explore_plan};
 use passing::least_passing;
 use requesting::accept;
 use terms::{Reason, Refusal};
@@ -36,8 +35,7 @@ pub fn search(
         budget,
         least: least_passing(percent, table.scale),
     };
-    let layout = arrange(&table, plan);
-    let held = explore(&table, &layout, plan, limits);
+    let held = explore_plan(&table, plan, limits);
     if held.room == 0 {
         return Err(Refusal {
             reason: Reason::NoCandidate,

@@ -2,9 +2,9 @@
 -- Assumes nothing.
 use Prim.Native.Nat.{ℕ}
 use native.Mathlib.Omega.{arith}
-use mathlib.Core.Path.{◌≡◌, refl, sym, ◌∙◌}
+use mathlib.Core.Path.{◌≡◌, refl, ap, sym, ◌∙◌}
 use mathlib.Core.Option.{Option, none, some}
-use mathlib.Core.List.{List, ◌∷◌, ◌++◌}
+use mathlib.Core.List.{List, [], ◌∷◌, ◌++◌}
 use Rattle.std.specs.Prelude.{Result, Ok, Err}
 use Rattle.std.specs.Prelude as code
 use Rattle.diagram.specs.Checks.{Check, table_checks}
@@ -12,7 +12,8 @@ use Rattle.diagram.specs.Services.{Outcome, refused, answered, checked, Reading,
 use Rattle.diagram.proofs.Checked.{Among, first, later, answered_not_refused, checked-passes, checked_stops, checked-append, checked-answered, checked_refused, read-answers}
 use Rattle.terms.specs.declared.refusal.Refusal.{Refusal}
 use Rattle.terms.specs.Numbers.{reason_number}
-use Rattle.steps.specs.Steps.{fault_of, bounded_by, outcome_by, finding}
+use Rattle.steps.specs.declared.numbered.Numbered.{Numbered}
+use Rattle.steps.specs.Steps.{fault_of, bounded_by, outcome_by, finding, and_then, and_within, measured, finding_after, measuring_after}
 
 -- ---------------------------------------------------------------------------
 -- A check's answer
@@ -61,7 +62,7 @@ first_passes c cs answer s a e = go (c.fault s) refl
     go (some i) q = absurd (answered_not_refused a c.number i (sym e ∙ checked_stops c cs answer s i q))
 
 -- and so each of its checks
-passes_each : {A : Type 0} (c : Check) {cs : List Check} (answer : List ℕ → Outcome A) (s : List ℕ) (a : A) → checked cs answer s ≡ answered a → Among c cs → c.fault s ≡ none
+pub passes_each : {A : Type 0} (c : Check) {cs : List Check} (answer : List ℕ → Outcome A) (s : List ℕ) (a : A) → checked cs answer s ≡ answered a → Among c cs → c.fault s ≡ none
 passes_each c answer s a e first = (first_passes _ _ answer s a e).0
 passes_each c answer s a e (later h) = passes_each c answer s a (first_passes _ _ answer s a e).1 h
 
@@ -109,3 +110,133 @@ module _ {A : Type 0} (s : List ℕ) (cs : List Check) (answer : List ℕ → Ou
 
   pub request_stops : (r : Refusal) → p ≡ Err r → checked (table_checks ++ cs) answer s ≡ refused (reason_number r.reason) r.place
   request_stops r e = read-answers s cs answer a read ∙ checked_refused s cs (λ _. tt) _ _ answer (refused_as (λ _. tt) promise r e)
+
+-- ---------------------------------------------------------------------------
+-- Checks by number: a finding stands, a list in two parts is two lists, and a list that finds nothing has passed each check
+
+pub refused_not_passes : {T : Type 0} (r : Numbered) (u : T) → ◌≡◌ {A = Result T Numbered} (Err r) (Ok u) → ⊥
+refused_not_passes r u e =
+    let z : ◌≡◌ {A = ℕ} 0 1 = cc in
+    omega arith
+
+-- what has been found stands
+pub refusal_stands : (r : Numbered) (cs : List Check) (s : List ℕ) → finding_after (Err r) cs s ≡ Err r
+unfolding finding_after and_then
+refusal_stands r [] s = refl
+refusal_stands r (c ∷ cs) s = refusal_stands r cs s
+
+pub finding-append : (v : Result Unit Numbered) (cs ds : List Check) (s : List ℕ) → finding_after v (cs ++ ds) s ≡ finding_after (finding_after v cs s) ds s
+unfolding finding_after
+finding-append v [] ds s = refl
+finding-append v (c ∷ cs) ds s = finding-append (and_then v c.number (fault_of (c.fault s))) cs ds s
+
+-- some checks, and some more
+pub and_finding : (u : Result Unit Numbered) {v w : Result Unit Numbered} (cs ds : List Check) (s : List ℕ) → v ≡ finding_after u cs s → w ≡ finding_after v ds s → w ≡ finding_after u (cs ++ ds) s
+and_finding u cs ds s e q = q ∙ rw e (sym (finding-append u cs ds s))
+
+-- one check
+pub one_check : (v : Result Unit Numbered) {w : Result Unit Numbered} (c : Check) (s : List ℕ) {n : ℕ} {f : code.Option ℕ} → w ≡ and_then v n f → n ≡ c.number → f ≡ fault_of (c.fault s) → w ≡ finding_after v (c ∷ []) s
+unfolding finding_after
+one_check v c s q n e = q ∙ rw (n, e) refl
+
+pub refused-after : {v : Result Unit Numbered} (r : Numbered) (cs : List Check) (s : List ℕ) → v ≡ Err r → Err r ≡ finding_after v cs s
+refused-after r cs s e = rw e (sym (refusal_stands r cs s))
+
+-- after a refusal no number is wanted
+pub measured-refused : {v : Result Unit Numbered} (r : Numbered) (cs : List Check) (s : List ℕ) (x : ℕ) → v ≡ Err r → Err r ≡ measuring_after v cs s x
+unfolding measured
+measured-refused r cs s x e = rw (e, refusal_stands r cs s) refl
+
+-- a list finds nothing only where nothing was found before
+pub passes-before : {v w : Result Unit Numbered} (cs : List Check) (s : List ℕ) (x : Unit) → w ≡ finding_after v cs s → w ≡ Ok x → v ≡ Ok x
+passes-before {v} {w} cs s x e q = go v refl
+  where
+    go : (u : Result Unit Numbered) → v ≡ u → v ≡ Ok x
+    go (Ok y) h = h
+    go (Err r) h = absurd (refused_not_passes r x (sym (refusal_stands r cs s) ∙ rw h at (sym e ∙ q)))
+
+-- a list that finds nothing has passed its first check, and the others
+first_finds : (x : Unit) (c : Check) (cs : List Check) (s : List ℕ) → finding_after (Ok x) (c ∷ cs) s ≡ Ok x → (c.fault s ≡ none) × (finding_after (Ok x) cs s ≡ Ok x)
+unfolding finding_after and_then fault_of
+first_finds x c cs s e = go (c.fault s) refl
+  where
+    go : (o : Option ℕ) → c.fault s ≡ o → (c.fault s ≡ none) × (finding_after (Ok x) cs s ≡ Ok x)
+    go none q = (q, rw q at e)
+    go (some i) q = absurd (refused_not_passes _ x (sym (refusal_stands _ cs s) ∙ rw q at e))
+
+-- and so each of its checks
+finds_each : (x : Unit) (c : Check) {cs : List Check} (s : List ℕ) → finding_after (Ok x) cs s ≡ Ok x → Among c cs → c.fault s ≡ none
+finds_each x c s e first = (first_finds x _ _ s e).0
+finds_each x c s e (later h) = finds_each x c s (first_finds x _ _ s e).1 h
+
+pub passes_among : (v : Result Unit Numbered) {w : Result Unit Numbered} {cs : List Check} (s : List ℕ) (x : Unit) → w ≡ finding_after v cs s → w ≡ Ok x → (number : ℕ) (fault : List ℕ → Option ℕ) → Among (record { number = number; fault = fault }) cs → fault s ≡ none
+passes_among v {w} {cs} s x e q number fault h =
+    finds_each x (record { number = number; fault = fault }) s (sym (rw (passes-before cs s x e q) at e) ∙ q) h
+
+-- one check that finds nothing before others that find nothing
+pub passes-next : (x : Unit) (c : Check) (cs : List Check) (s : List ℕ) → c.fault s ≡ none → finding_after (Ok x) cs s ≡ Ok x → finding_after (Ok x) (c ∷ cs) s ≡ Ok x
+unfolding finding_after and_then fault_of
+passes-next x c cs s e rest = rw e rest
+
+-- a check of a number that has a limit
+within-measured : (v : Result Unit Numbered) (n : ℕ) (o : Option ℕ) (x : ℕ) → and_within v n (bounded_by o x) ≡ measured (and_then v n (fault_of o)) x
+unfolding measured and_then and_within bounded_by fault_of
+within-measured (Ok u) n none x = refl
+within-measured (Ok u) n (some i) x = refl
+within-measured (Err r) n none x = refl
+within-measured (Err r) n (some i) x = refl
+
+pub one-measured : (v : Result Unit Numbered) {r : Result ℕ Numbered} (c : Check) (s : List ℕ) (x : ℕ) {n : ℕ} {b : Result ℕ ℕ} → r ≡ and_within v n b → n ≡ c.number → b ≡ bounded_by (c.fault s) x → r ≡ measuring_after v (c ∷ []) s x
+unfolding finding_after
+one-measured v c s x q n e = q ∙ rw (n, e) (within-measured v c.number (c.fault s) x)
+
+-- and other checks before it
+pub measured-after : (v : Result Unit Numbered) {w : Result Unit Numbered} {r : Result ℕ Numbered} (cs ds : List Check) (s : List ℕ) (x : ℕ) → w ≡ finding_after v cs s → r ≡ measuring_after w ds s x → r ≡ measuring_after v (cs ++ ds) s x
+measured-after v cs ds s x e q = q ∙ rw e (ap (λ (u : Result Unit Numbered). measured u x) (sym (finding-append v cs ds s)))
+
+-- what is found, and the number where nothing is
+module _ (w : Result Unit Numbered) (x : ℕ) {r : Result ℕ Numbered} (e : r ≡ measured w x) where
+  pub measured-found : (y : Numbered) → r ≡ Err y → w ≡ Err y
+  unfolding measured
+  measured-found y q = go w refl
+    where
+      go : (u : Result Unit Numbered) → w ≡ u → w ≡ Err y
+      go (Ok v) h = absurd (refused_not_passes y x (sym q ∙ e ∙ rw h refl))
+      go (Err z) h =
+          let same : ◌≡◌ {A = Result ℕ Numbered} (Err z) (Err y) = sym (e ∙ rw h refl) ∙ q in
+          let is : z ≡ y = cc in
+          rw is at h
+
+  -- and nothing, where a number is handed on
+  pub measured-passes : (y : ℕ) → r ≡ Ok y → w ≡ Ok tt
+  unfolding measured
+  measured-passes y q = go w refl
+    where
+      go : (u : Result Unit Numbered) → w ≡ u → w ≡ Ok tt
+      go (Ok v) h = h
+      go (Err z) h = absurd (refused_not_passes z y (sym (e ∙ rw h refl) ∙ q))
+
+  pub measured-value : (y : ℕ) → r ≡ Ok y → y ≡ x
+  unfolding measured
+  measured-value y q = go w refl
+    where
+      go : (u : Result Unit Numbered) → w ≡ u → y ≡ x
+      go (Ok v) h =
+          let same : ◌≡◌ {A = Result ℕ Numbered} (Ok x) (Ok y) = sym (e ∙ rw h refl) ∙ q in
+          cc
+      go (Err z) h = absurd (refused_not_passes z y (sym (e ∙ rw h refl) ∙ q))
+
+-- A list decides by what it finds
+unfoldable pub decided : {A : Type 0} → Result Unit Numbered → Outcome A → Outcome A
+decided (Ok u) o = o
+decided (Err r) o = refused r.number r.place
+
+pub checked-finding : {A : Type 0} (cs : List Check) (answer : List ℕ → Outcome A) (s : List ℕ) (x : Unit) → checked cs answer s ≡ decided (finding_after (Ok x) cs s) (answer s)
+unfolding checked decided finding_after and_then fault_of
+checked-finding [] answer s x = refl
+checked-finding (c ∷ cs) answer s x = go (c.fault s) refl (checked-finding cs answer s x)
+  where
+    go : (o : Option ℕ) → c.fault s ≡ o → checked cs answer s ≡ decided (finding_after (Ok x) cs s) (answer s) → checked (c ∷ cs) answer s ≡ decided (finding_after (Ok x) (c ∷ cs) s) (answer s)
+    go none q rest = rw q rest
+    go (some i) q rest =
+        rw q (ap (λ (w : Result Unit Numbered). decided w (answer s)) (sym (refusal_stands (record { number = c.number; place = i }) cs s)))

@@ -1,8 +1,11 @@
 // A check that finds a fault refuses, for its reason. A list of checks is then straight code with `?`, which can be cut and joined.
 #![tactic(auto)]
 
+mod numbered;
+
 ghost use Rattle.std.specs.Prelude.{◌≡◌, Some, None, Ok, Err, MatchResult};
 
+pub use numbered::{Numbered, and_then, and_within};
 use terms::{Reason, Refusal};
 
 // A check's step: it refuses the place that the check finds at fault, a word of the file or an index of the plan.

@@ -1,12 +1,14 @@
 // The words of a table file, its limits, the three numberings of a diagram, plans and refusals, in code.
 #![tactic(auto)]
 
+mod bits;
 mod limits;
 mod numbering;
 mod plan;
 mod refusal;
 mod word;
 
+pub use bits::kind;
 pub use limits::{
     MOST_BUDGET, MOST_BYTES, MOST_MORE_KITS, MOST_PARTS, MOST_PERCENT, MOST_RECORDS, MOST_REWARD,
     MOST_ROOTS, MOST_SCALE, MOST_VARIABLES,

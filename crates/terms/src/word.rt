@@ -4,6 +4,8 @@ ghost use Rattle.diagram.specs.Words.{word_at};
 ghost use Rattle.diagram.specs.Words as words;
 ghost use Rattle.terms.specs.Numbers.{kind_number};
 
+use crate::bits::kind as top;
+
 // The kinds of words, each with the papers' number.
 #[derive(Clone, Copy, PartialEq, Eq)]
 pub enum Kind {
@@ -33,7 +35,7 @@ pub fn word_at(file: &[u8], i: usize) -> u32
 pub fn has_kind(w: u32, kind: Kind) -> bool
     ensures { result ≡ eqb (words.kind w) (kind_number kind) }
 {
-    w / 268435456 == kind as u32
+    top(w) == kind as u32
 }
 
 pub fn field_p(w: u32) -> u32

@@ -9,7 +9,7 @@ use Rattle.diagram.specs.Table.{Table, choice_count}
 use Rattle.diagram.specs.Plans.{open_taken, upper_bound}
 use Rattle.diagram.proofs.FirstVariable.{score-le-scale}
 use Rattle.decoding.specs.declared.table.Decoded.{Decoded}
-use Rattle.decoding.specs.Decoding.{table_in, Sound}
+use Rattle.decoding.specs.Decoding.{table_in, Valid, Sound}
 use Rattle.decoding.proofs.Standing.{variables_in_lem, records_in_lem}
 use Rattle.weighing.specs.Weights.{table_arcs}
 use Rattle.weighing.proofs.ByArc.{arcs-high, arcs-low}
@@ -43,3 +43,7 @@ module _ {d : Decoded} (sound : Sound d) where
 pub top-fits : {t : Table} {p : List ℕ} {n : ℕ} {ps hs ls ws ms : List ℕ} → Marked t p n ps hs ls ws ms → upper_bound t p ≤ 2 ^ 56
 unfolding upper_bound
 top-fits {t} {p} m = omega (arith, score-le-scale t m.shares (open_taken p), m.scaled)
+
+pub bound-fits : {t : Table} → Valid t → (p : List ℕ) → upper_bound t p ≤ 2 ^ 56
+unfolding upper_bound
+bound-fits {t} valid p = omega (arith, score-le-scale t valid.shares (open_taken p), valid.scaled)

@@ -19,6 +19,7 @@ use Rattle.layers.specs.Layers.{cross_nodes, own_nodes, drop_sum, leave_nodes, E
 use Rattle.layout.specs.Flows as layers
 use Rattle.layout.specs.Flows.{Settles, Right, Same}
 use Rattle.lines.specs.Open.{open_lines}
+use Rattle.lines.proofs.Listed.{open_le}
 use Rattle.lines.specs.Laid.{numbers_of}
 use Rattle.lines.specs.declared.lay.Line.{Line}
 use Rattle.visiting.specs.Visit.{padded, LineLaid, BeginsAt, AllLaid, RightBefore, SameBefore, Scene, Ground, Stands}
@@ -186,6 +187,11 @@ module _ {g : Scene} {l : LaidArcs} {losses : List ℕ} (ground : Ground g l los
         let count = lines-count _ d _ lines_next in
         let less = rw line_lowest at (open_count-set g.plan (length (numbers_of rest)) m count) in
         (count ∙ ap suc (sym less), less ∙ numbers-length rest)
+
+    -- the open lines are 1 to 20
+    pub unsettled-few : (1 ≤ length (line ∷ rest)) × (length (line ∷ rest) ≤ 20)
+    unsettled-few =
+        (omega arith, omega (arith, marked-count 0, open_le g.plan, plan-length stands, ground.few))
 
     -- marking it in the array marks it in the plan
     marked-marks : (m : ℕ) → set marks d m ≡ padded (set g.plan d m)

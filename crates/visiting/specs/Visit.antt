@@ -130,11 +130,10 @@ abbrev pub Fits : Scene → Layout → List Line → State → (room bound : ℕ
 Fits g layout lines state room bound =
     Visitable g layout.arcs layout.losses lines state.cells state.marks state.held room bound
 
--- What a visit asks for: the arrays have their lengths, a scene fits, and there is room to count the visits
+-- What a visit asks for: a scene fits, and there is room to count the visits
 abbrev pub Ready : Layout → List Line → State → (room bound : ℕ) → Type 0
 Ready layout lines state room bound =
-    ((length state.cells ≡ 512) × (length state.marks ≡ 20))
-    × (((g : Scene) × Fits g layout lines state room bound) × (state.held.visits + 2 ^ suc (length lines) ≤ 2 ^ 63))
+    ((g : Scene) × Fits g layout lines state room bound) × (state.held.visits + 2 ^ suc (length lines) ≤ 2 ^ 63)
 
 -- What a visit leaves, whichever scene fits
 abbrev pub Leaves : Layout → List Line → State → (room bound : ℕ) → State → Type 0

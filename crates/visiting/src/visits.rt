@@ -4,7 +4,7 @@ ghost use Rattle.visiting.specs.Visit.{Ready, Leaves};
 use incumbent::Incumbent;
 use layers::{enter_layer, leave_line};
 use layout::Layout;
-use lines::Line;
+use lines::{Line, mark_line};
 use terms::Plan;
 
 // What the visits of a search change: the path weights that the nodes hand on, the marks of the plan visited, and what is held.
@@ -31,9 +31,8 @@ pub fn visit(layout: &Layout, lines: &[Line], state: &mut State, room: u64, boun
         state.held.keep(&state.marks, room, bound);
         return;
     };
-    let i = line.choice.number();
     let drop = enter_layer(&layout.arcs, &layout.losses, &mut state.cells, line.layer);
-    state.marks[i] = Plan::TAKEN;
+    mark_line(line, &mut state.marks, Plan::TAKEN);
     if room <= line.kits {
         state.held.count();
     } else {
@@ -41,8 +40,8 @@ pub fn visit(layout: &Layout, lines: &[Line], state: &mut State, room: u64, boun
     }
     if !state.held.is_beaten(bound - drop) {
         leave_line(&mut state.cells, line.layer);
-        state.marks[i] = Plan::LEFT;
+        mark_line(line, &mut state.marks, Plan::LEFT);
         visit(layout, rest, state, room, bound - drop);
     }
-    state.marks[i] = Plan::OPEN;
+    mark_line(line, &mut state.marks, Plan::OPEN);
 }

@@ -31,6 +31,13 @@ use Rattle.weighing.specs.Weights.{products, shares_by, high_shares, low_shares,
 use Rattle.weighing.proofs.Values.{gap-scale, shares-drop, shares_sum}
 
 -- ---------------------------------------------------------------------------
+-- The weight of an arc
+
+-- the share times the quotient of two products, at the numbers that are read
+pub weight_is : (qs : List ℕ) (share : ℕ) {i j from to : ℕ} → i ≡ from → j ≡ to → share * (get_or qs (i + 1) 0 / get_or qs j 0) ≡ share * (get_or qs (from + 1) 0 / get_or qs to 0)
+weight_is qs share e f = rw (e, f)
+
+-- ---------------------------------------------------------------------------
 -- A word's variable
 
 module _ (w : ℕ) where

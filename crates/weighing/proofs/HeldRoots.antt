@@ -50,6 +50,10 @@ roots-held {t} valid e =
 -- ---------------------------------------------------------------------------
 -- The product of b before a node
 
+-- the quotient of two products, at the number that is read
+pub weight_is : (qs : List ℕ) {i at : ℕ} → i ≡ at → get_or qs 0 0 / get_or qs i 0 ≡ get_or qs 0 0 / get_or qs at 0
+weight_is qs e = rw e
+
 module _ {d : Decoded} (sound : Sound d) where
   pub records-few : (1 ≤ d.records) × (d.records - 1 < 254)
   records-few =

@@ -2,7 +2,7 @@
 -- over the variables that a walk skips.
 -- Assumes of the records what check 17 finds (`Formed`) and of the variables what check 14 finds (`BoundedShares`), where a law says so.
 use Prim.Native.Nat.{ℕ, zero, suc, ◌+◌, ◌-◌, ◌*◌, ◌≤◌}
-use native.Mathlib.Nat.{le_refl, add-sub_of_le}
+use native.Mathlib.Nat.{le_refl, add-sub_of_le, sub_self}
 use native.Mathlib.Numerals.{add-one}
 use native.Mathlib.Omega.{arith}
 use mathlib.Core.Path.{◌≡◌, refl, ap, sym, ◌∙◌}
@@ -28,6 +28,10 @@ scale_split zero vs = omega arith
 scale_split (suc n) [] = refl
 scale_split (suc n) (choice ∷ vs) = scale_split n vs
 scale_split (suc n) (chance a b ∷ vs) = omega (arith, ap (λ (z : ℕ). b * z) (scale_split n vs))
+
+pub gap_same : (t : Table) (x : ℕ) → gap t x x ≡ 1
+unfolding gap scale_of
+gap_same t x = rw sub_self refl
 
 pub gap-scale : (t : Table) (x y : ℕ) → x ≤ y → y ≤ length t.variables → gap t x y * scale_of (drop y t.variables) ≡ scale_of (drop x t.variables)
 unfolding gap

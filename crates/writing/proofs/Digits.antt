@@ -5,14 +5,13 @@ use native.Mathlib.Numerals.{add-one}
 use native.Mathlib.Decide.{dec_lt}
 use native.Mathlib.Omega.{arith}
 use mathlib.Core.Path.{◌≡◌, refl, ap, ◌∙◌}
-use mathlib.Core.List.{List, [], ◌∷◌, ◌++◌}
+use mathlib.Core.List.{List, [], ◌∷◌, ◌++◌, append-nil}
 use mathlib.Core.Logic.{by_cases}
 use lib.ListN.{length, set, take, drop, length-append, length-set, length-drop}
-use lib.Seq.{drop_at, length-take-le, take_all, set_split, append_snoc}
+use lib.Seq.{drop_at, take_all, drop-length, length-take-le, set_split, append_snoc}
 use borrow.Author.Tests.{lt-ltb, le-ltb}
 use Rattle.diagram.specs.Printout.{digits, decimal}
-use Rattle.writing.specs.declared.text.Text.{Text}
-use Rattle.writing.specs.Wrote.{Appends}
+use Rattle.writing.specs.Wrote.{Wrote}
 
 -- ---------------------------------------------------------------------------
 -- The digits of a number
@@ -79,6 +78,10 @@ pub record Tail (n m i : ℕ) (room : List ℕ) : Type 0 where
   pub text : decimal m ++ drop i room ≡ decimal n
   pub size : length room ≡ 20
 
+-- at the start it has none
+pub tail_start : (n : ℕ) (room : List ℕ) → length room ≡ 20 → Tail n n 20 room
+tail_start n room e = record { text = rw (← e, drop-length room, append-nil) refl; size = e }
+
 module _ {n m k : ℕ} {room : List ℕ} (w : Tail n m k room) where
   -- there is a place for the last digit of what is left
   pub tail_some : n < 2 ^ 64 → 1 ≤ k
@@ -96,11 +99,17 @@ module _ {n m k : ℕ} {room : List ℕ} (w : Tail n m k room) where
     tail_next {j} s l d x = record { text = rw (s, put-before, d, x, ← append_snoc, ← decimal_more m l) w.text; size = length-set room j v ∙ w.size }
 
     -- or nothing, where it is the only one: what stands from there on is the number
-    tail_last : {j : ℕ} → j ≡ i → m < 10 → v ≡ 48 + m → drop j (set room j v) ≡ decimal n
-    tail_last s l x = rw (s, put-before, ← w.text, decimal-small m l, ← x) refl
+    tail_digits : {j : ℕ} → j ≡ i → m < 10 → v ≡ 48 + m → drop j (set room j v) ≡ decimal n
+    tail_digits s l x = rw (s, put-before, ← w.text, decimal-small m l, ← x) refl
 
-    -- which is what is appended
-    pub tail_appended : {a b : Text} {j c : ℕ} → Appends a (take c (drop j (set room j v))) b → j ≡ i → c ≡ 20 - j → m < 10 → v ≡ 48 + m → Appends a (decimal n) b
-    tail_appended {j = j} {c = c} t s f l x =
+    -- which is what is written
+    pub tail_written : {a b : List ℕ} {at end j c : ℕ} → Wrote a at b end (take c (drop j (set room j v))) → j ≡ i → c ≡ 20 - j → m < 10 → v ≡ 48 + m → Wrote a at b end (decimal n)
+    tail_written {j = j} {c = c} t s f l x =
         let long : length (drop j (set room j v)) ≤ c = omega (arith, f, length-drop j (set room j v), length-set room j v, w.size) in
-        rw (take_all c _ long, tail_last s l x) at t
+        rw (take_all c _ long, tail_digits s l x) at t
+
+    -- and so of what is written from there on up to the room's end
+    pub tail_last : {j : ℕ} {a b : List ℕ} {at end : ℕ} → Wrote a at b end (take (20 - i) (drop i (set room j v))) → j ≡ i → m < 10 → v ≡ 48 + m → Wrote a at b end (decimal n)
+    tail_last wrote s l x =
+        let all = take_all (20 - i) (drop i (set room i v)) (omega (arith, w.size, length-drop i (set room i v), length-set room i v)) in
+        rw (← w.text, decimal-small m l, ← x, ← put-before, ← all) (rw s at wrote)

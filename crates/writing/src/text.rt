@@ -1,6 +1,9 @@
 // A text by value.
 ghost use Rattle.std.specs.Prelude.{◌≡◌, ◌+◌, ◌≤◌, length, take};
 
+use crate::decimal::put_decimal;
+use crate::words::put_word;
+
 // The first `count` bytes, in ASCII. What follows is left as it was.
 #[derive(Clone, Copy)]
 pub struct Text {
@@ -30,30 +33,18 @@ impl Text {
         ensures count { self.new.count ≡ self.old.count + length word.now }
     {
         let start = self.count;
-        let end = start + word.len();
-        self.bytes[start..end].copy_from_slice(word);
+        let end = put_word(&mut self.bytes, start, word);
         self.count = end;
     }
 
     // Appends a number in decimal. Whoever calls has room for 20 digits, which are enough for every number.
-    // The last digit is found first, so the digits are put into a room from its end, and appended.
     pub fn number(&mut self, n: u64)
         requires { self.old.count + 20 ≤ 1024 }
         ensures appends { Appends self.old (decimal n) self.new }
         ensures count { self.new.count ≤ self.old.count + 20 }
     {
-        let mut room = [0u8; 20];
-        let mut first = 20;
-        let mut left = n;
-        loop {
-            let tenth = left / 10;
-            first -= 1;
-            room[first] = (48 + (left - 10 * tenth)) as u8;
-            if tenth == 0 {
-                return self.word(&room[first..]);
-            }
-            left = tenth;
-        }
+        let start = self.count;
+        self.count = put_decimal(&mut self.bytes, start, n);
     }
 
     // The bytes of the text.

@@ -41,8 +41,8 @@ order_records-nodes-requires c =
     let at = value-held c.requires.sound c.requires.plan c.value_plan.ensures in
     (at.marked.size.1, omega (arith, variables_in_lem c.args.table.now, at.marked.few))
 
-pub lay_arcs-laid-requires : goal.lay_arcs-laid-requires
-lay_arcs-laid-requires c =
+pub lay_arcs-requires : goal.lay_arcs-requires
+lay_arcs-requires c =
     let at = nodes-ordered c.requires.sound c.requires.plan c.value_plan.ensures c.order_records-nodes.ensures.list in
     let monotone = c.requires.sound.valid.monotone in
     record {
@@ -71,7 +71,7 @@ returns c =
     let at = nodes-ordered c.requires.sound c.requires.plan valued nodes.list in
     let root-node = λ (k : ℕ) (h : k < c.value_plan.new.valued.roots.count).
     sym (ap (λ (r : Root). r.node) (root_in d k (omega (arith, roots_in_lem d, at.roots.all)))) in
-    let laid = c.lay_arcs-laid.ensures in
+    let laid = c.lay_arcs.ensures in
     let lost = c.losses-lost.ensures in
     let by_rank = c.losses_by_rank.ensures in
     record {

@@ -17,26 +17,25 @@ returns-in_err-table c =
     let read = c.in_err-table.ensures in
     rw (out.1, out.2) (score-refused _ _ _ _ (refused-read numbers_in _ read.outcome _ refl))
 
-pub returns-in_err-check_full_plan : goal.returns-in_err-check_full_plan
+pub returns-in-Err : goal.returns-in-Err
 unfolding outcome_by
-returns-in_err-check_full_plan c =
-    let out = err_from_is_err_and c.from_residual-in_err-check_full_plan.result c.from_residual-in_err-check_full_plan.ensures.1 in
+returns-in-Err c =
     let read = c.in_ok-table.ensures in
     let found = c.check_full_plan.ensures ∙ full_plan_finds _ _ (table-choices numbers_in _ read.outcome c.in_ok-table.table refl) in
-    rw (out.1, out.2) (score_turned _ _ found (table-read numbers_in _ read.outcome c.in_ok-table.table refl) _ c.in_err-check_full_plan.was)
+    score_turned _ _ found (table-read numbers_in _ read.outcome c.in_ok-table.table refl) _ c.in-Err.is
 
 pub upper_bound-requires-clause-plan : goal.upper_bound-requires-clause-plan
 upper_bound-requires-clause-plan c =
     let read = c.in_ok-table.ensures in
     let table = read.accepted c.in_ok-table.table refl in
     let found = c.check_full_plan.ensures ∙ full_plan_finds _ _ (table-choices numbers_in _ read.outcome c.in_ok-table.table refl) in
-    let passes = c.in_ok-check_full_plan.was in
+    let passes = c.in-Ok.is in
     (rw table.0 (plan-long _ _ found _ passes), full_legal _ _ (plan_full _ _ found _ passes))
 
-pub returns : goal.returns
+pub returns-in-Ok : goal.returns-in-Ok
 unfolding outcome_by
-returns c =
+returns-in-Ok c =
     let read = c.in_ok-table.ensures in
     let table = read.accepted c.in_ok-table.table refl in
     let found = c.check_full_plan.ensures ∙ full_plan_finds _ _ (table-choices numbers_in _ read.outcome c.in_ok-table.table refl) in
-    score-answered _ _ found _ c.in_ok-check_full_plan.was (table-read numbers_in _ read.outcome c.in_ok-table.table refl) _ (rw table.0 at c.upper_bound.ensures)
+    score-answered _ _ found _ c.in-Ok.is (table-read numbers_in _ read.outcome c.in_ok-table.table refl) _ (rw table.0 at c.upper_bound.ensures)

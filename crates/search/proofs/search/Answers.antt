@@ -44,14 +44,14 @@ least_passing-requires c =
     let scaled = accepted-scale _ _ _ _ _ c.accept.ensures.outcome _ c.in_ok-table.was in
     (ok.percents, omega (arith, scaled, passed_scale ok.passed))
 
-pub arrange-layout-requires-clause-plan : goal.arrange-layout-requires-clause-plan
-arrange-layout-requires-clause-plan c =
+pub explore_plan-held-requires-clause-plan : goal.explore_plan-held-requires-clause-plan
+explore_plan-held-requires-clause-plan c =
     let ok = accepted_proper _ _ _ _ _ c.accept.ensures.outcome _ c.in_ok-table.was in
     let table = c.accept.ensures.accepted _ c.in_ok-table.was in
     (rw table.0 ok.long, ok.legal)
 
-pub explore-held-requires-clause-least : goal.explore-held-requires-clause-least
-explore-held-requires-clause-least c =
+pub explore_plan-held-requires-clause-least : goal.explore_plan-held-requires-clause-least
+explore_plan-held-requires-clause-least c =
     let ok = accepted_proper _ _ _ _ _ c.accept.ensures.outcome _ c.in_ok-table.was in
     let scaled = accepted-scale _ _ _ _ _ c.accept.ensures.outcome _ c.in_ok-table.was in
     let least : LeastPassing (table_of c.args.file.now) c.args.percent c.least_passing.result = c.least_passing.ensures _ scaled in
@@ -64,7 +64,7 @@ returns-then-held-eq0 c =
     let a = c.args in
     let accepted = accepted_request _ _ _ _ _ c.accept.ensures.outcome _ c.in_ok-table.was in
     let least = c.least_passing.ensures _ (accepted-scale _ _ _ _ _ c.accept.ensures.outcome _ c.in_ok-table.was) in
-    let holds = searched a.file.now a.plan.now a.budget a.percent (length a.out.now) c.accept.ensures _ c.in_ok-table.was least c.explore-held.ensures in
+    let holds = searched a.file.now a.plan.now a.budget a.percent (length a.out.now) c.accept.ensures _ c.in_ok-table.was least c.explore_plan-held.ensures in
     let promised = search_32 a.file.now a.plan.now a.out.now a.budget a.percent (numbers_in c.in_ok-table.table) accepted holds c.if-held-eq0.true _ refl refl in
     record { answer = promised.0; buffer = promised.1.0; visits = promised.1.1 }
 
@@ -78,6 +78,6 @@ returns c =
     let a = c.args in
     let accepted = accepted_request _ _ _ _ _ c.accept.ensures.outcome _ c.in_ok-table.was in
     let least = c.least_passing.ensures _ (accepted-scale _ _ _ _ _ c.accept.ensures.outcome _ c.in_ok-table.was) in
-    let holds = searched a.file.now a.plan.now a.budget a.percent (length a.out.now) c.accept.ensures _ c.in_ok-table.was least c.explore-held.ensures in
+    let holds = searched a.file.now a.plan.now a.budget a.percent (length a.out.now) c.accept.ensures _ c.in_ok-table.was least c.explore_plan-held.ensures in
     let promised = search_found a.file.now a.plan.now a.out.now a.budget a.percent (numbers_in c.in_ok-table.table) accepted holds c.if-held-eq0.false c.copy_from_slice.ensures.after refl refl in
     record { answer = promised.0; buffer = promised.1.0; visits = promised.1.1 }

@@ -21,8 +21,8 @@ two_passes-swept-requires-clause-plan c =
     let table = c.accept.ensures.accepted _ c.in_ok-table.was in
     (rw table.0 ok.long, ok.legal)
 
-pub shared_ref_as_front-copy_from_slice : goal.shared_ref_as_front-copy_from_slice
-shared_ref_as_front-copy_from_slice c =
+pub write-requires : goal.write-requires
+write-requires c =
     let ok = accepted_proper _ _ _ _ _ c.accept.ensures.outcome _ c.in_ok-table.was in
     omega (arith, ok.sized, passed_choices ok.passed)
 
@@ -31,5 +31,5 @@ unfolding outcome_by
 returns c =
     let swept = c.two_passes-swept.ensures in
     let stands = (c.accept.ensures.accepted _ c.in_ok-table.was).0 in
-    let done = sweep_done c.args.file.now c.args.plan.now c.args.drops.now (numbers_in c.in_ok-table.table) (accepted_request _ _ _ _ _ c.accept.ensures.outcome _ c.in_ok-table.was) (rw stands at swept.bound) (rw stands at swept.drops) c.copy_from_slice.ensures.after in
+    let done = sweep_done c.args.file.now c.args.plan.now c.args.drops.now (numbers_in c.in_ok-table.table) (accepted_request _ _ _ _ _ c.accept.ensures.outcome _ c.in_ok-table.was) (rw stands at swept.bound) (rw stands at swept.drops) c.write.ensures in
     record { answer = done.0; buffer = done.1 }

@@ -1,9 +1,7 @@
--- `put_plan` meets its contract: its three parts stand one after the other. Assumes nothing.
-use Rattle.text.specs.Lines.{full_text}
-use Rattle.writing.proofs.Writes.{appends_then}
+-- `put_plan` meets its contract: what is appended to an empty text stands at the buffer's front. Assumes nothing.
+use mathlib.Core.Path.{◌∙◌}
+use Rattle.writing.proofs.Writes.{appended_first}
 use Rattle.text.proofs.put_plan.Goals as goal
 
 pub returns : goal.returns
-unfolding full_text
-returns c =
-    appends_then (appends_then c.put_table.ensures.appends c.put_found.ensures.appends) c.put_marks.ensures
+returns c = rw (c.as_bytes.ensures ∙ appended_first c.new-text.ensures c.append_plan.ensures.appends) at c.put_word.ensures

@@ -4,7 +4,7 @@ use Rattle.diagram.specs.Words.{word_at, field_p, field_q, field_r}
 use Rattle.diagram.specs.Table.{Record, record_at, record_of, table_of, variable_count, record_count}
 use Rattle.decoding.specs.Nodes.{column, Shaped}
 use Rattle.decoding.proofs.Shape.{heading-records, record-at-word, record_past, shaped-formed}
-use Rattle.decoding.proofs.Columns.{fill_start, fill_on, fill_end}
+use Rattle.decoding.proofs.Columns.{fill_from, fill_on, fill_end}
 use Rattle.decoding.proofs.records.records_of.Goals as goal
 
 -- what the word of record k says
@@ -36,8 +36,9 @@ past_at s e k h = record_past s k (omega (arith, e))
 
 pub loop-k-init : goal.loop-k-init
 loop-k-init c =
-    let v = c.variable_count-v.ensures.count in
-    (fill_start (rw v refl), fill_start refl, fill_start refl)
+    let v = c.variable_count-v.result in
+    let e = c.variable_count-v.ensures.count in
+    (fill_from v v refl e e, fill_from 0 0 refl refl refl, fill_from 0 0 refl refl refl)
 
 pub store-requires : goal.store-requires
 store-requires c =

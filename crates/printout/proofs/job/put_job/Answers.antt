@@ -4,8 +4,8 @@ use Rattle.printout.proofs.job.put_job.Goals as goal
 
 pub returns-in-Ok : goal.returns-in-Ok
 unfolding answer_text
-returns-in-Ok c = rw (← c.in-Ok.ensures.text, ← c.requires) c.put_plan.ensures
+returns-in-Ok c = rw (← c.in-Ok.ensures.text, ← c.requires) c.append_plan.ensures.appends
 
 pub returns-in-Err : goal.returns-in-Err
 unfolding answer_text
-returns-in-Err c = rw (← c.in-Err.ensures.text, ← c.requires) c.put_refusal.ensures
+returns-in-Err c = rw (← c.in-Err.ensures.text, ← c.requires) c.append_refusal.ensures

@@ -32,7 +32,7 @@ visit-requires c =
     let passing = c.requires.least.1 in
     let laid = lines_used _ c.of_plan-lines.ensures.lines c.of_plan-lines.ensures.count c.as_slice.ensures in
     let visitable = first_visitable sound long ready limits.kits c.requires.layout.arranged laid refl refl (rw (c.saturating_sub-room.ensures, c.from.ensures, c.cost_of.ensures) refl) passing.1 held.0 in
-    ((refl, ready.handed.2), ((first_scene _ _ _ _ passing.0 _ _, visitable), first-room sound long ready _ held.1 laid))
+    ((first_scene _ _ _ _ passing.0 _ _, visitable), first-room sound long ready _ held.1 laid)
 
 pub returns : goal.returns
 returns c percent passing =

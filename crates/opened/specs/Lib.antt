@@ -1,0 +1,2 @@
+-- What an opened table says of its file.
+pub mod Numbers

@@ -1,0 +1,2 @@
+-- Laws of the words of a table file.
+pub mod Words
