@@ -26,7 +26,9 @@ pub struct Layout {
 }
 
 // Lays out an accepted table for searches from a plan that the checks 21 and 22 let through: values the plan, puts nodes and arcs in
-// order, and weighs what leaving a line loses at each of its nodes.
+// order, and weighs what leaving a line loses at each of its nodes. Not inlined, so that what it works with is off the stack when the
+// visits begin.
+#[inline(never)]
 pub fn arrange(table: &Decoded, plan: &[u8]) -> Layout
     requires sound { Sound table.now }
     requires plan { Legal table.now plan.now }

@@ -34,8 +34,8 @@ impl Lines {
         Lines::of_open(open_lines(plan), positions, ends, kits)
     }
 
-    // The lines of these numbers, the lowest first, at most 20 of them. The first layer begins at rank 0, each other where the one
-    // before ends. `ends` has how many nodes stand before each position. The positions are a table's, and the numbers those of its choices.
+    // The lines of these numbers, in their order, at most 20 of them. The first layer begins at rank 0, each other where the one before
+    // ends. `ends` has how many nodes stand before each position. The positions are a table's, and the numbers those of its choices.
     pub fn of_open(
         listed: OpenLines,
         positions: &[u8; 20],

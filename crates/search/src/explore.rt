@@ -25,22 +25,23 @@ pub struct Limits {
 
 // What is held and counted after the search of an accepted table from a plan that the checks 21 and 22 let through. Apart from `search`,
 // so that only a request that they let through has room for a layout. `search` has the least score that passes from `least_passing`.
-pub fn explore_plan(table: &Decoded, plan: &[u8], limits: Limits) -> Incumbent
+pub(crate) fn explore_plan(table: &Decoded, plan: &[u8], limits: Limits) -> Incumbent
     requires sound { Sound table.now }
     requires plan { Legal table.now plan.now }
     requires least { (limits.budget ≤ 10020) × ((percent : ℕ) × LeastPassing (table_in table.now) percent limits.least) }
     ensures { SearchedWithin (table_in table.now) plan.now limits result }
 {
-    let layout = arrange(table, plan);
-    explore(table, &layout, plan, limits)
+    explore(table, arrange(table, plan), plan, limits)
 }
 
-// The same over the layout of the table from the plan, as `explore_plan` hands it in.
-pub fn explore(table: &Decoded, layout: &Layout, plan: &[u8], limits: Limits) -> Incumbent
+// The same over the layout of the table from the plan, as `explore_plan` hands it in: by value, since one that was lent lay on the stack
+// twice, and not inlined, like `arrange`, so that the room of the one is not on the stack beside the other's.
+#[inline(never)]
+pub fn explore(table: &Decoded, layout: Layout, plan: &[u8], limits: Limits) -> Incumbent
     requires sound { Sound table.now }
     requires plan { Legal table.now plan.now }
     requires least { (limits.budget ≤ 10020) × ((percent : ℕ) × LeastPassing (table_in table.now) percent limits.least) }
-    requires layout { LaidOut (table_in table.now) plan.now layout.now }
+    requires layout { LaidOut (table_in table.now) plan.now layout }
     ensures { SearchedWithin (table_in table.now) plan.now limits result }
 {
     let start = Plan::of_marks(plan);
@@ -54,6 +55,6 @@ pub fn explore(table: &Decoded, layout: &Layout, plan: &[u8], limits: Limits) ->
     state.cells[ROOT_CELL] = 1;
     // the kits that the plan leaves and one more, and 0 where it costs more than the budget
     let room = (u64::from(limits.budget) + 1).saturating_sub(cost_of(plan, &limits.kits));
-    visit(layout, lines.as_slice(), &mut state, room, layout.bound);
+    visit(&layout, lines.as_slice(), &mut state, room, layout.bound);
     state.held
 }
