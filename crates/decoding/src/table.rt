@@ -34,7 +34,9 @@ pub struct Decoded {
     pub rewards: [u64; 16],
 }
 
-// Decodes a file that the checks 12, 15, 17 and 26 let through, and whose B is `scale`.
+// Decodes a file that the checks 12, 15, 17 and 26 let through, and whose B is `scale`. Not inlined, so that its columns are on the
+// stack no longer than it lasts.
+#[inline(never)]
 pub fn decode(file: &[u8], scale: u64) -> Decoded
     requires shaped { Shaped file.now × (root_fault file.now ≡ none) × (choice_count (table_of file.now).variables ≤ 20) }
     requires scale { scale ≡ table.scale (table_of file.now) }

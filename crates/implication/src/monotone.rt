@@ -12,7 +12,9 @@ use crate::worklist::{Pair, Worklist};
 use decoding::{Decoded, child_of, is_choice_at, position_of};
 use terms::{Node, Position};
 
-// Check 18, of a decoded table whose records are formed, as check 17 leaves them.
+// Check 18, of a decoded table whose records are formed, as check 17 leaves them. Not inlined, so that its pairs are on the stack no
+// longer than it lasts.
+#[inline(never)]
 pub fn monotone_fault(t: &Decoded) -> Option<usize>
     requires { Checkable t.now }
     ensures { result ≡ fault_of (monotone_fault_in (table_in t.now)) }

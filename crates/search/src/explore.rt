@@ -1,4 +1,4 @@
-// The search of an accepted table from a legal plan: the open lines are laid out, then the plan is visited. The layout is handed in.
+// The search of an accepted table from a legal plan: table and open lines are laid out, then the plan is visited.
 ghost use Rattle.std.specs.Prelude.{◌≡◌, ℕ, ◌≤◌};
 ghost use Rattle.diagram.specs.Plans.{LeastPassing};
 ghost use Rattle.decoding.specs.Decoding.{table_in, Sound};
@@ -24,7 +24,8 @@ pub struct Limits {
 }
 
 // What is held and counted after the search of an accepted table from a plan that the checks 21 and 22 let through. Apart from `search`,
-// so that only a request that they let through has room for a layout. `search` has the least score that passes from `least_passing`.
+// so that the room for a layout is cleared only for a request that they let through. `search` has the least score that passes from
+// `least_passing`.
 pub(crate) fn explore_plan(table: &Decoded, plan: &[u8], limits: Limits) -> Incumbent
     requires sound { Sound table.now }
     requires plan { Legal table.now plan.now }
