@@ -6,7 +6,7 @@
    A slice is a pointer and a length in elements. No pointer is null, of an empty slice neither; what is written overlaps nothing else that
    is handed in. Any bytes, numbers and lengths may be handed in: there is nothing else to see to. A call takes no heap, keeps nothing, and
    may be made from any thread. Its stack, measured on tables of 60 variables, 254 records, 20 choices and 16 root words and rounded up:
-   10 KiB for a read, 20 for a score, 18 for a sweep or a filter, 37 for a search; 4 more at a first call that the linker binds only then.
+   12 KiB for a read, 19 for a score, 23 for a sweep or a filter, 86 for a search; 4 more at a first call that the linker binds only then.
 
    A plan has one byte a choice: 0 open, 1 taken, 2 left. A table that is answered has at most 1,324 bytes. It may end with up to 16 root
    words, each a record's node with a reward (document 02, paper 3); B, scores, tops and drops are then over all roots. */
