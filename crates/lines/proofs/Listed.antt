@@ -1,16 +1,17 @@
 -- The list of a plan's open lines, line after line. Assumes nothing.
 use Prim.Native.Nat.{ℕ, zero, suc, ◌+◌, ◌≤◌, ◌<◌}
-use native.Mathlib.Nat.{le_refl}
+use native.Mathlib.Nat.{le_refl, zero-add}
 use native.Mathlib.Numerals.{add-one}
 use native.Mathlib.Omega.{arith}
 use mathlib.Core.Path.{◌≡◌, refl, ap, sym, ◌∙◌}
 use mathlib.Core.List.{List, [], ◌∷◌, ◌++◌}
 use lib.ListN.{length, get_or, take, set, replicate, length-append}
-use lib.Seq.{take-suc, length-take-le}
+use lib.Seq.{take-suc, length-take-le, get_or-take}
 use Rattle.diagram.specs.Plans.{open_count}
 use Rattle.decoding.specs.Decoding.{pad_to}
-use Rattle.decoding.proofs.Padding.{pad_none, pad_next}
-use Rattle.lines.specs.Open.{open_from, open_lines}
+use Rattle.decoding.proofs.Padding.{pad_none, pad_next, pad_at}
+use Rattle.terms.specs.declared.plan.Plan.{Plan}
+use Rattle.lines.specs.Open.{rows, open_from, open_lines}
 
 -- the list has one number for each open line
 pub lines-length : (i : ℕ) (p : List ℕ) → length (open_from i p) ≡ open_count p
@@ -49,6 +50,15 @@ marked_last i (suc m) [] f = refl
 marked_last i m (zero ∷ p) f = ap (λ (ks : List ℕ). i ∷ ks) (marked_last (suc i) m p f)
 marked_last i m (suc k ∷ p) f = marked_last (suc i) m p f
 
+-- an open line's number stands after those of the open lines before it
+at_open : (j i : ℕ) (p : List ℕ) → i < length p → get_or p i 0 ≡ 0 → (length (open_from j (take i p)) < length (open_from j p)) × (get_or (open_from j p) (length (open_from j (take i p))) 0 ≡ j + i)
+unfolding open_from
+at_open j i [] h e = absurd (omega arith)
+at_open j zero (zero ∷ p) h e = (omega arith, omega arith)
+at_open j zero (suc m ∷ p) h e = absurd (omega arith)
+at_open j (suc i) (zero ∷ p) h e = let rest = at_open (suc j) i p (omega arith) e in (omega (arith, rest.0), omega (arith, rest.1))
+at_open j (suc i) (suc m ∷ p) h e = let rest = at_open (suc j) i p (omega arith) e in (rest.0, omega (arith, rest.1))
+
 -- ---------------------------------------------------------------------------
 -- The array of the open lines among the first i
 
@@ -83,7 +93,40 @@ module _ (marks : List ℕ) (i : ℕ) (less : i < length marks) where
     listed_open listed e ex few =
         rw (listed, counted, ex, open_next e) (pad_next 20 (open_lines (take i marks)) i (omega (arith, counted, count-few)))
 
+    -- an open line's number, in the array of all open lines, stands after those of the open lines before it
+    pub number_open : length marks ≤ 20 → get_or marks i 0 ≡ 0 → (count < length (open_lines marks)) × (get_or (pad_to 20 (open_lines marks)) count 0 ≡ i)
+    unfolding open_lines
+    number_open few e =
+        let at = at_open 0 i marks less e in
+        let here : count < length (open_from 0 marks) = rw counted at.0 in
+        (here, pad_at 20 (open_from 0 marks) count here ∙ rw counted (at.1 ∙ zero-add i))
+
   -- a marked line is passed
   pub lines-marked : (get_or marks i 0 ≡ 0 → ⊥) → open_lines (take (i + 1) marks) ≡ open_lines (take i marks)
   unfolding open_lines
   lines-marked f = rw row_next (marked_last 0 (get_or marks i 0) (take i marks) f)
+
+-- ---------------------------------------------------------------------------
+-- An open line of a plan, the open lines before it counted
+
+pub record OpenRow (plan : Plan) (i count : ℕ) : Type 0 where
+  pub within : i < length (rows plan)
+  pub mark : get_or (rows plan) i 0 ≡ 0
+  pub below : count < length (open_lines (rows plan))
+  pub few : count < 20
+  pub number : get_or (pad_to 20 (open_lines (rows plan))) count 0 ≡ i
+
+-- a line of a plan is one of its rows
+pub row_within : (plan : Plan) {i : ℕ} → length plan.marks ≡ 20 → plan.count ≤ 20 → i < plan.count → i < length (rows plan)
+row_within plan size most less =
+    let long = length-take-le plan.count plan.marks (omega arith) in
+    omega arith
+
+-- an open line's number stands after those of the open lines before it
+pub open_row : (plan : Plan) {i count : ℕ} → length plan.marks ≡ 20 → plan.count ≤ 20 → i < plan.count → get_or plan.marks i 0 ≡ 0 → count ≡ length (open_lines (take i (rows plan))) → OpenRow plan i count
+open_row plan {i} {count} size most less e counted =
+    let long = length-take-le plan.count plan.marks (omega arith) in
+    let within = row_within plan size most less in
+    let mark : get_or (rows plan) i 0 ≡ 0 = get_or-take plan.count plan.marks i 0 less ∙ e in
+    let at = number_open (rows plan) i within counted (omega arith) mark in
+    record { within = within; mark = mark; below = at.0; few = omega (arith, at.0, lines-few (rows plan)); number = at.1 }

@@ -7,7 +7,7 @@ use native.Mathlib.Omega.{arith}
 use mathlib.Core.Path.{◌≡◌, refl, sym, ap, ◌∙◌}
 use mathlib.Core.Bool.{Bool, true, false, not, ◌||◌}
 use mathlib.Core.List.{List, ◌∷◌}
-use lib.ListN.{length, set}
+use lib.ListN.{length, set, length-set}
 use lib.Seq.{set-set}
 use lib.Dec.{eqb, leb}
 use lib.Pow.{pow_pos}
@@ -46,9 +46,14 @@ abbrev parts : Scene → Terms
 parts g = terms g.table g.budget g.percent
 
 -- What a visit asks for: the plan may be visited, and there is room for the visits
+abbrev FittingAt : LaidArcs → (losses : List ℕ) → List Line → (cells marks : List ℕ) → Incumbent → (room bound : ℕ) → Type 0
+FittingAt l losses lines cells marks held room bound =
+    ((g : Scene) × Visitable g l losses lines cells marks held room bound) × (held.visits + 2 ^ suc (length lines) ≤ 2 ^ 63)
+
+-- The same, and the arrays have their lengths
 abbrev ReadyAt : LaidArcs → (losses : List ℕ) → List Line → (cells marks : List ℕ) → Incumbent → (room bound : ℕ) → Type 0
 ReadyAt l losses lines cells marks held room bound =
-    ((g : Scene) × Visitable g l losses lines cells marks held room bound) × (held.visits + 2 ^ suc (length lines) ≤ 2 ^ 63)
+    ((length cells ≡ 512) × (length marks ≡ 20)) × FittingAt l losses lines cells marks held room bound
 
 -- What a visit leaves
 abbrev pub LeavesAt : LaidArcs → (losses : List ℕ) → List Line → (cells marks : List ℕ) → Incumbent → (room bound : ℕ) → (cells' marks' : List ℕ) → Incumbent → Type 0
@@ -153,9 +158,13 @@ module _ {g : Scene} {l : LaidArcs} {losses : List ℕ} {lines rest : List Line}
         }
 
     -- it may be visited
-    pub first_ready : held.visits + 2 ^ suc (length lines) ≤ 2 ^ 63 → ReadyAt l losses rest cells₁ (set marks d 1) held₁ (room - line.kits) bound
-    first_ready fits =
+    pub first_fitting : held.visits + 2 ^ suc (length lines) ≤ 2 ^ 63 → FittingAt l losses rest cells₁ (set marks d 1) held₁ (room - line.kits) bound
+    first_fitting fits =
         ((first, first_given), rw (counted-visits given long now, ← add-one) (room-first (length rest) held.visits (rw parts-are at fits)))
+
+    -- and its arrays have their lengths
+    pub first_ready : length marks ≡ 20 → held.visits + 2 ^ suc (length lines) ≤ 2 ^ 63 → ReadyAt l losses rest cells₁ (set marks d 1) held₁ (room - line.kits) bound
+    first_ready twenty fits = ((rw entered (branching.entered-long given.ground given.stands long), rw (length-set marks d 1) twenty), first_fitting fits)
 
     module _ {cells₂ marks₂ : List ℕ} {held₂ : Incumbent} (visited : LeavesAt l losses rest cells₁ (set marks d 1) held₁ (room - line.kits) bound cells₂ marks₂ held₂) where
       -- what its visit leaves
@@ -229,11 +238,15 @@ module _ {g : Scene} {l : LaidArcs} {losses : List ℕ} {lines rest : List Line}
               }
 
           -- it may be visited after the other
-          pub second_ready : held.visits + 2 ^ suc (length lines) ≤ 2 ^ 63 → ReadyAt l losses rest cells₃ (set marks₂ d 2) held₂ room (bound - lost)
-          second_ready fits =
+          pub second_fitting : held.visits + 2 ^ suc (length lines) ≤ 2 ^ 63 → FittingAt l losses rest cells₃ (set marks₂ d 2) held₂ room (bound - lost)
+          second_fitting fits =
               let most = rule-visits (length rest) (parts g) (set g.plan (lowest_open g.plan) 1) (record { held = g.held; visits = suc held.visits }) in
               let counts : held₂.visits ≡ after.visits = rw after_first at first-left.counts in
               ((second, second_given), room-second (length rest) held.visits held₂.visits (rw parts-are at fits) (rw counts (omega (arith, most))))
+
+          -- and its arrays have their lengths
+          pub second_ready : length marks ≡ 20 → held.visits + 2 ^ suc (length lines) ≤ 2 ^ 63 → ReadyAt l losses rest cells₃ (set marks₂ d 2) held₂ room (bound - lost)
+          second_ready twenty fits = ((rw leaves (branching.left-long given.ground given.stands long first-same first-left.long), rw (second-marks, length-set marks d 2) twenty), second_fitting fits)
 
           module _ {cells₄ marks₄ : List ℕ} {held₄ : Incumbent} (visited-too : LeavesAt l losses rest cells₃ (set marks₂ d 2) held₂ room (bound - lost) cells₄ marks₄ held₄) where
             -- what its visit leaves

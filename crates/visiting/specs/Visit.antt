@@ -131,9 +131,14 @@ Fits g layout lines state room bound =
     Visitable g layout.arcs layout.losses lines state.cells state.marks state.held room bound
 
 -- What a visit asks for: a scene fits, and there is room to count the visits
+abbrev pub Fitting : Layout → List Line → State → (room bound : ℕ) → Type 0
+Fitting layout lines state room bound =
+    ((g : Scene) × Fits g layout lines state room bound) × (state.held.visits + 2 ^ suc (length lines) ≤ 2 ^ 63)
+
+-- The same, and the arrays have their lengths
 abbrev pub Ready : Layout → List Line → State → (room bound : ℕ) → Type 0
 Ready layout lines state room bound =
-    ((g : Scene) × Fits g layout lines state room bound) × (state.held.visits + 2 ^ suc (length lines) ≤ 2 ^ 63)
+    ((length state.cells ≡ 512) × (length state.marks ≡ 20)) × Fitting layout lines state room bound
 
 -- What a visit leaves, whichever scene fits
 abbrev pub Leaves : Layout → List Line → State → (room bound : ℕ) → State → Type 0

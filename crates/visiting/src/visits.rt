@@ -1,5 +1,5 @@
 // The visits of document 01's rule, by recursion over the open lines.
-ghost use Rattle.visiting.specs.Visit.{Ready, Leaves};
+ghost use Rattle.visiting.specs.Visit.{Fitting, Leaves};
 
 use incumbent::Incumbent;
 use layers::{enter_layer, leave_line};
@@ -20,7 +20,7 @@ pub struct State {
 // hands in the first plan. Where the kits of a line leave no room, the plan with it taken is only counted: its visit goes back, and there
 // is no need of a call.
 pub fn visit(layout: &Layout, lines: &[Line], state: &mut State, room: u64, bound: u64)
-    requires { Ready layout.now lines.now state.old room bound }
+    requires { Fitting layout.now lines.now state.old room bound }
     ensures { Leaves layout.now lines.now state.old room bound state.new }
 {
     state.held.count();

@@ -11,7 +11,9 @@ use lib.ListN.{length, set, take, drop, length-append, length-set, length-drop}
 use lib.Seq.{drop_at, take_all, drop-length, length-take-le, set_split, append_snoc}
 use borrow.Author.Tests.{lt-ltb, le-ltb}
 use Rattle.diagram.specs.Printout.{digits, decimal}
-use Rattle.writing.specs.Wrote.{Wrote}
+use Rattle.writing.specs.declared.text.Text.{Text}
+use Rattle.writing.specs.Wrote.{Wrote, Appends}
+use Rattle.writing.proofs.Writes.{wrote-appends, appends-wrote}
 
 -- ---------------------------------------------------------------------------
 -- The digits of a number
@@ -107,6 +109,10 @@ module _ {n m k : ℕ} {room : List ℕ} (w : Tail n m k room) where
     tail_written {j = j} {c = c} t s f l x =
         let long : length (drop j (set room j v)) ≤ c = omega (arith, f, length-drop j (set room j v), length-set room j v, w.size) in
         rw (take_all c _ long, tail_digits s l x) at t
+
+    -- or appended to a text
+    pub tail_appended : {a b : Text} {j c : ℕ} → Appends a (take c (drop j (set room j v))) b → j ≡ i → c ≡ 20 - j → m < 10 → v ≡ 48 + m → Appends a (decimal n) b
+    tail_appended t s f l x = wrote-appends (tail_written (appends-wrote t) s f l x)
 
     -- and so of what is written from there on up to the room's end
     pub tail_last : {j : ℕ} {a b : List ℕ} {at end : ℕ} → Wrote a at b end (take (20 - i) (drop i (set room j v))) → j ≡ i → m < 10 → v ≡ 48 + m → Wrote a at b end (decimal n)

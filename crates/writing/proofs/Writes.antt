@@ -29,7 +29,7 @@ pub wrote-appends : {a b : Text} {x : List ℕ} → Wrote a.bytes a.count b.byte
 wrote-appends w = record { text = w.text; count = w.count; size = w.size; rest = w.rest }
 
 -- and what is appended is written there
-appends-wrote : {a b : Text} {x : List ℕ} → Appends a x b → Wrote a.bytes a.count b.bytes b.count x
+pub appends-wrote : {a b : Text} {x : List ℕ} → Appends a x b → Wrote a.bytes a.count b.bytes b.count x
 appends-wrote w = record { text = w.text; count = w.count; size = w.size; rest = w.rest }
 
 -- so a text and then another, appended, are the two together

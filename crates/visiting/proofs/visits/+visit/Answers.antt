@@ -4,7 +4,7 @@ use native.Mathlib.Omega.{arith}
 use mathlib.Core.Path.{◌≡◌}
 use lib.ListN.{length, set}
 use borrow.Author.Rules.{rules}
-use Rattle.visiting.proofs.VisitSteps.{LeavesAt, visit_back, visit_full, visit-over, line_few, enter_ready, drop_ready, first_ready, leave_ready, second_ready, visit-taken, visit-both}
+use Rattle.visiting.proofs.VisitSteps.{LeavesAt, visit_back, visit_full, visit-over, line_few, enter_ready, drop_ready, first_fitting, leave_ready, second_fitting, visit-taken, visit-both}
 use Rattle.visiting.proofs.visits.+visit.Goals as goal
 use Rattle.visiting.proofs.visits.+visit.Goals.{then-room-line, else-room-line, then-not-is_beaten, else-not-is_beaten}
 
@@ -31,7 +31,7 @@ mark_line-requires t c =
 pub visit-requires : goal.visit-requires
 visit-requires t c =
     let long : length c.args.state.now.cells ≡ 512 = search rules in
-    (omega (arith, c.decreases, c.in-Some.ensures.cases.1), rw c.mark_line.ensures (first_ready c.in-Some.ensures.cases.0 c.requires.0.1 long c.count.ensures c.enter_layer-drop.ensures.cells c.requires.1))
+    (omega (arith, c.decreases, c.in-Some.ensures.cases.1), rw c.mark_line.ensures (first_fitting c.in-Some.ensures.cases.0 c.requires.0.1 long c.count.ensures c.enter_layer-drop.ensures.cells c.requires.1))
 
 pub overflow_sub-bound : goal.overflow_sub-bound
 overflow_sub-bound t c =
@@ -68,7 +68,7 @@ visit-requires-then-not-is_beaten t c =
       | then-room-line w ↦ λ g given. rw (w.state-is, c.mark_line.ensures) (visit-over given c.enter_layer-drop.array_long.0 w.count-then-room-line.ensures (omega (arith, w.if-room-line.true)))
       | else-room-line w ↦ rw w.state-is (rw c.mark_line.ensures at w.visit.ensures)
     ] in
-    (omega (arith, c.decreases, c.in-Some.ensures.cases.1), rw c.mark_line-then-not-is_beaten.ensures (second_ready c.in-Some.ensures.cases.0 c.requires.0.1 long c.count.ensures c.enter_layer-drop.ensures.cells visited c.enter_layer-drop.ensures.drop c.leave_line.ensures c.requires.1))
+    (omega (arith, c.decreases, c.in-Some.ensures.cases.1), rw c.mark_line-then-not-is_beaten.ensures (second_fitting c.in-Some.ensures.cases.0 c.requires.0.1 long c.count.ensures c.enter_layer-drop.ensures.cells visited c.enter_layer-drop.ensures.drop c.leave_line.ensures c.requires.1))
 
 pub mark_line-requires-2 : goal.mark_line-requires-2
 mark_line-requires-2 t c =
